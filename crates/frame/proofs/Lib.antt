@@ -1,0 +1,4 @@
+pub mod Choosing
+pub mod Rewrites
+pub mod RoundTrip
+pub mod Status

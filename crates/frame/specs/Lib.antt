@@ -1,0 +1,9 @@
+pub mod Faults
+pub mod Highest
+pub mod Ids
+pub mod Reading
+pub mod Refusals
+pub mod Requests
+pub mod Rewriting
+pub mod Worked
+pub mod Writing
