@@ -6,7 +6,7 @@ use lib.ListN.{getD}
 use Rattle.frame.specs.declared.types.NodeId.{NodeId}
 
 -- six octets as one number of 48 bits, the first octet highest
-abbrev pub id-number : NodeId → ℕ
+unfoldable pub id-number : NodeId → ℕ
 id-number n =
     getD (n .octets) 0 0 * 2 ^ 40 + getD (n .octets) 1 0 * 2 ^ 32 + getD (n .octets) 2 0 * 2 ^ 24
     + getD (n .octets) 3 0 * 2 ^ 16 + getD (n .octets) 4 0 * 2 ^ 8 + getD (n .octets) 5 0
