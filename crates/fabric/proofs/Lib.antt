@@ -1,0 +1,5 @@
+mod Addresses
+mod Flushing
+mod Learning
+mod Searches
+mod Words

@@ -1,0 +1,32 @@
+// What switches: a port fabric means four marks, and two fabrics that keep them.
+mod fabric;
+mod records;
+mod register;
+mod table;
+mod types;
+
+pub use fabric::Fabric;
+pub use register::RegisterFabric;
+pub use register::RegisterFabricDebug;
+pub use register::RegisterFabricPartialEq;
+pub use register::RegisterIsFabric;
+pub use table::Address;
+pub use table::AddressDebug;
+pub use table::AddressEq;
+pub use table::AddressIsSame;
+pub use table::Record;
+pub use table::RecordDebug;
+pub use table::RecordPartialEq;
+pub use table::Side;
+pub use table::SideDebug;
+pub use table::SidePartialEq;
+pub use table::TableFabric;
+pub use table::TableFabricDebug;
+pub use table::TableFabricPartialEq;
+pub use table::TableIsFabric;
+pub use types::FabricFault;
+pub use types::FabricFaultDebug;
+pub use types::FabricFaultPartialEq;
+pub use types::Ports;
+pub use types::PortsDebug;
+pub use types::PortsPartialEq;
