@@ -2,8 +2,9 @@
 use mathlib.Core.Path.{_≡_, refl, sym, ap, _∙_}
 use mathlib.Core.Bool.{Bool, false, cond}
 use mathlib.Core.List.{List, [], _∷_, map}
-use Prim.Native.Nat.{_+_, _≤_}
+use Prim.Native.Nat.{ℕ, _+_, _≤_}
 use native.Mathlib.Omega.{arith}
+use lib.Dec.{eqb}
 use Rattle.std.specs.declared.option.Option.the-variants.{Some, None}
 use Rattle.fabric.specs.declared.table.Address.{Address}
 use Rattle.fabric.specs.declared.table.Side.{Side}
@@ -16,18 +17,12 @@ use Rattle.fabric.specs.Table.{same-address, holds, of-port, any-of, found-at,
 use Rattle.fabric.specs.Laws.{how-many, only-off-ring, FlushLaw}
 use Rattle.fabric.proofs.Addresses.{by-cases}
 
--- no record of a ring port is left
-freed-not-0 : (r : Record) → of-port 0 (freed r) ≡ false
-freed-not-0 Free = refl
-freed-not-0 (Known a Port0) = refl
-freed-not-0 (Known a Port1) = refl
-freed-not-0 (Known a OffRing) = refl
-
-freed-not-1 : (r : Record) → of-port 1 (freed r) ≡ false
-freed-not-1 Free = refl
-freed-not-1 (Known a Port0) = refl
-freed-not-1 (Known a Port1) = refl
-freed-not-1 (Known a OffRing) = refl
+-- only records of port 2 are left
+freed-not : (p : ℕ) → eqb 2 p ≡ false → (r : Record) → of-port p (freed r) ≡ false
+freed-not p h Free = refl
+freed-not p h (Known a Port0) = refl
+freed-not p h (Known a Port1) = refl
+freed-not p h (Known a OffRing) = h
 
 any-freed : (t : Record → Bool) → ((r : Record) → t (freed r) ≡ false) → (rs : List Record) → any-of t (map freed rs) ≡ false
 any-freed t h [] = refl
@@ -35,7 +30,7 @@ any-freed t h (r ∷ rs) = rw (h r) (any-freed t h rs)
 
 -- the marks after flush, whatever list the freed records are
 pub marks-freed : (t : TableFabric) (rs : List Record) → rs ≡ map freed (t .records) → table-marks (record { blocked = t .blocked; records = rs }) ≡ after-flush (table-marks t)
-marks-freed t rs e = rw (e, any-freed (of-port 0) freed-not-0 (t .records), any-freed (of-port 1) freed-not-1 (t .records))
+marks-freed t rs e = rw (e, any-freed (of-port 0) (freed-not 0 refl) (t .records), any-freed (of-port 1) (freed-not 1 refl) (t .records))
 
 -- what is off the ring stays
 octets-freed : (r : Record) → off-ring-octets (freed r) ≡ off-ring-octets r

@@ -1,4 +1,4 @@
-// What a port fabric means to a ring: four marks, and calls that change them one by one.
+// What a port fabric means to a ring: four marks, and the calls that ask for them and change them.
 ghost use mathlib.Core.Path.{_≡_};
 ghost use mathlib.Core.List.{List, []};
 ghost use Prim.Native.Nat.{ℕ};

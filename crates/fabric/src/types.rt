@@ -1,4 +1,4 @@
-// The words that every fabric shares.
+// What every fabric shares: marks in pairs, and the refusals.
 ghost use mathlib.Core.Path.{_≡_};
 ghost use Rattle.std.specs.declared.option.Option.the-variants.{Some};
 ghost use Rattle.fabric.specs.Faults.{refusal};
@@ -10,7 +10,7 @@ pub struct Ports {
     pub p1: bool,
 }
 
-// Why a fabric refuses a call.
+// Why a fabric refuses a call; specs/Faults.antt has each one's number and place.
 #[derive(Clone, Copy, PartialEq, Eq, Debug)]
 pub enum FabricFault {
     NoSuchPort { port: u8 },

@@ -1,7 +1,10 @@
 // The lines of a script and the lines that answer them.
+mod fabrics;
 mod frames;
 mod words;
 
+pub use fabrics::FabricRefused;
+pub use fabrics::FabricRefusedDisplay;
 pub use frames::Heard;
 pub use frames::HeardDisplay;
 pub use frames::Refused;
