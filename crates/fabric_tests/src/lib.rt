@@ -1,5 +1,9 @@
 // A third fabric, a generic caller, and examples.
-pub mod change;
-pub mod lamp;
+mod change;
+mod lamp;
 #[cfg(test)]
 mod tests;
+
+pub use change::hand_over;
+pub use lamp::LampFabric;
+pub use lamp::LampIsFabric;

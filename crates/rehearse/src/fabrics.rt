@@ -74,7 +74,10 @@ fn host(last: u8) -> Address {
 }
 
 pub(crate) fn show_table(rt: &LibcRuntime) -> io::Result<()> {
-    println!(rt, "A switch with a table of addresses; ports 0 and 1 are on the ring, port 2 is off it:")?;
+    println!(
+        rt,
+        "A switch with a table of addresses; ports 0 and 1 are on the ring, port 2 is off it:"
+    )?;
     let mut table = TableFabric::new();
     learn(rt, &mut table, host(0x10), 0)?;
     look_up(rt, &table, host(0x10))?;
@@ -87,7 +90,10 @@ pub(crate) fn show_table(rt: &LibcRuntime) -> io::Result<()> {
 }
 
 pub(crate) fn show_register(rt: &LibcRuntime) -> io::Result<()> {
-    println!(rt, "A switch with a register; the first digit is blocked 0, blocked 1, taught 0, taught 1, the others are the host's:")?;
+    println!(
+        rt,
+        "A switch with a register; its first digit has blocked 0, blocked 1, taught 0, taught 1, the rest is the host's:"
+    )?;
     let mut register = RegisterFabric { word: 0xB123_4567 };
     show_word(rt, &register)?;
     block(rt, &mut register, 1)?;

@@ -80,7 +80,10 @@ pub(crate) fn show_frame(rt: &LibcRuntime) -> io::Result<()> {
         let refused = Refused(fault);
         return println!(rt, "{refused}");
     }
-    println!(rt, "Station 00005E005301 reports a failure at its port 1: ring 1, VID 100, MEL 7.")?;
+    println!(
+        rt,
+        "Station 00005E005301 reports a failure at its port 1: ring 1, VID 100, MEL 7."
+    )?;
     show(rt, &frame)?;
     println!(rt, "Read back:")?;
     hear(rt, &frame)?;

@@ -91,7 +91,12 @@ fn octet_of(word: &str) -> Option<u8> {
 }
 
 // `read RING VID HEX`, the words after `read`: the message or the refusal; none for a bad line.
-pub fn answer_read(ring: &str, vid: &str, hex: &str, heap: Global) -> Result<Option<String>, AllocError> {
+pub fn answer_read(
+    ring: &str,
+    vid: &str,
+    hex: &str,
+    heap: Global,
+) -> Result<Option<String>, AllocError> {
     let (Some(ring_id), Some(vid)) = (octet_of(ring), number_of(vid)) else {
         return Ok(None);
     };
@@ -149,7 +154,12 @@ pub fn answer_write(words: &[&str], heap: Global) -> Result<Option<String>, Allo
         return Ok(None);
     };
     let mut buffer = vec![in heap; 0xAAu8; usize::from(order.length)]?;
-    let answer = write_frame(order.message, order.channel, order.mel, buffer.as_mut_slice());
+    let answer = write_frame(
+        order.message,
+        order.channel,
+        order.mel,
+        buffer.as_mut_slice(),
+    );
     let hex = Hex(buffer.as_slice());
     let text = match answer {
         Ok(()) => format!(heap, "ok buf={hex}")?,
