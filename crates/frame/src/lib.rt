@@ -19,4 +19,5 @@ pub use types::Message;
 pub use types::NodeId;
 pub use types::Request;
 pub use worked::worked_frame;
+pub use writing::is_in_range;
 pub use writing::write_frame;

@@ -23,7 +23,12 @@ const FRAME_LENGTH: usize = 55;
 const EVENT: u8 = 14;
 
 // Writes the message's frame into the buffer's first 55 octets; a refusal leaves the buffer as it was.
-pub fn write_frame(message: Message, channel: Channel, mel: u8, buffer: &mut [u8]) -> Result<(), FrameFault>
+pub fn write_frame(
+    message: Message,
+    channel: Channel,
+    mel: u8,
+    buffer: &mut [u8],
+) -> Result<(), FrameFault>
     ensures answer { λ r. ⌜ told r ≡ writing message channel mel (now (buffer .entry)) ⌝ }
     ensures left { λ _. ⌜ now (buffer .exit) ≡ written message channel mel (now (buffer .entry)) ⌝ }
     ensures readable { λ r. ⌜ (r ≡ Ok tt → reading (now (buffer .exit)) channel ≡ gave message) ⌝ }
@@ -39,7 +44,8 @@ pub fn write_frame(message: Message, channel: Channel, mel: u8, buffer: &mut [u8
     Ok(())
 }
 
-fn is_in_range(node: NodeId, channel: Channel, mel: u8) -> bool
+// Whether a frame can carry these settings.
+pub fn is_in_range(node: NodeId, channel: Channel, mel: u8) -> bool
     ensures { λ r. ⌜ r ≡ in-range node channel mel ⌝ }
 {
     is_station(node)

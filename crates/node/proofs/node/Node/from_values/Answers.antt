@@ -1,0 +1,9 @@
+use mathlib.Core.Path.{sym, _∙_}
+use Rattle.node.proofs.Lawful.{parts}
+use Rattle.node.proofs.node.Node.from_values.Needs as need
+
+pub ghost-result : need.ghost-result
+ghost-result c =
+    let p = parts (c .args .values) (sym (c .keeps-rules .ensures) ∙ c .if-keeps-rules .taken) in
+    let s = p .sound in
+    (s .settings, (s .failed, (s .forced, (s .sending, (p .burst, (s .timers, (s .idle, tt)))))))

@@ -1,0 +1,11 @@
+pub mod Calls
+pub mod Claims
+pub mod Faults
+pub mod Laws
+pub mod Names
+pub mod Ports
+pub mod Receiving
+pub mod Rows
+pub mod Rules
+pub mod Settling
+pub mod Worked

@@ -1,0 +1,191 @@
+// Whether plain values make a node: each rule of specs/Rules.antt as a test.
+ghost use mathlib.Core.Path.{_≡_};
+ghost use mathlib.Core.Bool.{false, true};
+ghost use Rattle.std.specs.Options.{Cases};
+ghost use Rattle.node.specs.Names.{by-state};
+ghost use Rattle.node.specs.Rules.{burst-ok, failed-ok, forced-ok, idle-ok, makes-node, message-ok, none-in-force, rpl-fits, sending-ok, settings-ok, timers-ok};
+use crate::node::Node;
+use crate::ports::agree;
+use crate::ports::is_marked;
+use crate::ports::lies_within;
+use crate::ports::some_marked;
+use crate::receiving::idle_ports;
+use crate::rows::is_owner;
+use crate::settling::is_sending;
+use crate::types::Commands;
+use crate::types::Due;
+use crate::types::NodeValues;
+use crate::types::Port;
+use crate::types::Role;
+use crate::types::Sending;
+use crate::types::Settings;
+use crate::types::State;
+use crate::types::Timers;
+use fabric::Ports;
+use frame::Request;
+use frame::is_in_range;
+
+fn rpl_fits(role: Role, rpl: Port) -> bool
+    ensures { λ r. ⌜ r ≡ rpl-fits role rpl ⌝ }
+{
+    !matches!((role, rpl), (Role::Other, Port::One))
+}
+
+pub(crate) fn settings_rule(settings: Settings) -> bool
+    ensures { λ r. ⌜ r ≡ settings-ok settings ⌝ }
+{
+    is_in_range(settings.id, settings.channel, settings.mel)
+        && rpl_fits(settings.role, settings.rpl)
+}
+
+fn failed_rule(state: State, blocked: Ports, failed: Ports) -> bool
+    ensures { λ r. ⌜ r ≡ failed-ok state blocked failed ⌝ }
+{
+    match state {
+        State::Protection => lies_within(failed, blocked),
+        State::ForcedSwitch => true,
+        _ => !some_marked(failed),
+    }
+}
+
+fn nothing_in_force(commands: Commands) -> bool
+    ensures { λ r. ⌜ r ≡ none-in-force commands ⌝ }
+{
+    !some_marked(commands.forced) & commands.manual.is_none()
+}
+
+fn forced_rule(state: State, blocked: Ports, commands: Commands) -> bool
+    ensures { λ r. ⌜ r ≡ forced-ok state blocked commands ⌝ }
+{
+    match state {
+        State::ManualSwitch => {
+            !some_marked(commands.forced)
+                & match commands.manual {
+                    Some(port) => is_marked(blocked, port),
+                    None => true,
+                }
+        }
+        State::ForcedSwitch => lies_within(commands.forced, blocked) & commands.manual.is_none(),
+        _ => nothing_in_force(commands),
+    }
+}
+
+fn is_idle(state: State) -> bool
+    ensures { λ r. ⌜ r ≡ by-state state true false false false false ⌝ }
+{
+    matches!(state, State::Idle)
+}
+
+fn is_pending(state: State) -> bool
+    ensures { λ r. ⌜ r ≡ by-state state false false false false true ⌝ }
+{
+    matches!(state, State::Pending)
+}
+
+fn message_rule(
+    request: Option<Request>,
+    role: Role,
+    state: State,
+    failed: Ports,
+    commands: Commands,
+    dnf: bool,
+    mismatch: bool,
+) -> bool
+    ensures { λ r. ⌜ r ≡ message-ok request role state failed commands dnf mismatch ⌝ }
+{
+    match request {
+        None => !dnf,
+        Some(Request::NoRequest) => !dnf & (is_pending(state) | (is_owner(role) & mismatch)),
+        Some(Request::RplBlocked) => is_owner(role) & is_idle(state),
+        Some(Request::SignalFail) => match state {
+            State::Protection => some_marked(failed),
+            _ => false,
+        },
+        Some(Request::ManualSwitch) => commands.manual.is_some(),
+        Some(Request::ForcedSwitch) => some_marked(commands.forced),
+    }
+}
+
+fn sending_rule(values: NodeValues) -> bool
+    ensures { λ r. ⌜ r ≡ sending-ok (values .settings .role) (values .state) (values .blocked) (values .failed) (values .commands) (values .sending) (values .mismatch) ⌝ }
+{
+    let sending = values.sending;
+    let may = message_rule(
+        sending.request,
+        values.settings.role,
+        values.state,
+        values.failed,
+        values.commands,
+        sending.dnf,
+        values.mismatch,
+    );
+    may & (values.mismatch | (!is_sending(sending.request) | some_marked(values.blocked)))
+}
+
+fn burst_rule(sending: Sending, due: Due) -> bool
+    ensures { λ r. ⌜ r ≡ burst-ok sending due ⌝ }
+{
+    if is_sending(sending.request) {
+        (due.burst <= 3) & ((due.wait <= 500) & ((due.burst == 0) | (due.wait == 0)))
+    } else {
+        (due.burst == 0) & (due.wait == 0)
+    }
+}
+
+fn timers_rule(role: Role, revertive: bool, state: State, timers: Timers) -> bool
+    ensures { λ r. ⌜ r ≡ timers-ok role revertive state timers ⌝ }
+{
+    let bounded = (timers.guard <= 50) & ((timers.wtr <= 30_000) & (timers.wtb <= 550));
+    let waits = if is_owner(role) & (revertive & is_pending(state)) {
+        (timers.wtr == 0) | (timers.wtb == 0)
+    } else {
+        (timers.wtr == 0) & (timers.wtb == 0)
+    };
+    bounded & waits
+}
+
+fn idle_rule(role: Role, rpl: Port, state: State, blocked: Ports, mismatch: bool) -> bool
+    ensures { λ r. ⌜ r ≡ idle-ok role rpl state blocked mismatch ⌝ }
+{
+    match state {
+        State::Idle => mismatch | agree(blocked, idle_ports(role, rpl)),
+        _ => true,
+    }
+}
+
+fn keeps_rules(values: NodeValues) -> bool
+    ensures { λ r. ⌜ r ≡ makes-node values ⌝ }
+{
+    let settings = values.settings;
+    settings_rule(settings)
+        & (failed_rule(values.state, values.blocked, values.failed)
+            & (forced_rule(values.state, values.blocked, values.commands)
+                & (sending_rule(values)
+                    & (burst_rule(values.sending, values.due)
+                        & (timers_rule(
+                            settings.role,
+                            settings.revertive,
+                            values.state,
+                            values.timers,
+                        )
+                            & idle_rule(
+                                settings.role,
+                                settings.rpl,
+                                values.state,
+                                values.blocked,
+                                values.mismatch,
+                            ))))))
+}
+
+impl Node {
+    // The node that plain values make; none where they break a rule.
+    pub fn from_values(values: NodeValues) -> Option<Node>
+        ensures { λ r. ⌜ Cases r (makes-node values ≡ false) (λ n. (n .values ≡ values) × (makes-node values ≡ true)) ⌝ }
+    {
+        if keeps_rules(values) {
+            Some(Node { values })
+        } else {
+            None
+        }
+    }
+}

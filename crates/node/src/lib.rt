@@ -1,0 +1,36 @@
+// One ring switch.
+mod calls;
+mod check;
+mod claims;
+mod drive;
+mod fault_places;
+mod faults;
+mod laws;
+mod node;
+mod ports;
+mod receiving;
+mod rows;
+mod sending;
+mod settling;
+mod types;
+
+pub use faults::NodeFault;
+pub use faults::NodeFaultFromFrame;
+pub use laws::calls_keep_a_block;
+pub use laws::calls_keep_the_rules;
+pub use laws::mark_means_another_owner;
+pub use laws::marks_follow_the_calls;
+pub use laws::own_and_events_change_no_port;
+pub use laws::rules_promise_the_ports;
+pub use laws::worked_examples;
+pub use node::Node;
+pub use types::Commands;
+pub use types::Due;
+pub use types::NodeValues;
+pub use types::Port;
+pub use types::Role;
+pub use types::Sending;
+pub use types::Settings;
+pub use types::State;
+pub use types::Status;
+pub use types::Timers;
