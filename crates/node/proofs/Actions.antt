@@ -19,8 +19,8 @@ use Rattle.node.specs.declared.types.State.the-variants.{ManualSwitch as Manua
 use Rattle.node.specs.declared.types.Timers.{Timers}
 use Rattle.node.specs.Names.{by-state, is-owner, is-other}
 use Rattle.node.specs.Ports.{none, only, at, with-mark, some, within, meet, same, implies}
-use Rattle.node.specs.Rows.{seize-failed, force-new, force-more, manual-row, rest, release, yield, pend, present, hear-force, to-idle, moved, no-commands, quiet-unless-owner, clear-fail}
-use Rattle.node.specs.Rules.{settings-ok, timers-ok, rest-ports}
+use Rattle.node.specs.Rows.{seize-failed, force-new, force-more, manual-row, rest, release, yield-to, pend, present, open-both, to-idle, moved, no-commands, quiet-unless-owner, clear-fail}
+use Rattle.node.specs.Rules.{settings-ok, timers-ok, idle-ports}
 use Rattle.node.proofs.Lawful.{Sound, Failed, Forcing, Speaks, Runs, Rests}
 use Rattle.node.proofs.Split.{in-cond, in-state}
 use Rattle.node.proofs.Timing.{stopped-ok, wtr-ok, wtb-ok, pend-ok, guard-ok}
@@ -101,7 +101,7 @@ release-sound v g b f =
 
 -- opening all that did not fail, from a state without failures
 pub yield-sound : (v : NodeValues) (s : State) → settings-ok (v .settings) ≡ true → Runs v → some (v .failed) ≡ false
-    → by-state s (is-other (v .settings .role)) true true false true ≡ true → Sound (yield v s .values)
+    → by-state s (is-other (v .settings .role)) true true false true ≡ true → Sound (yield-to v s .values)
 yield-sound v s g t f a = record {
   settings = g;
   failed = grind arith;
@@ -111,7 +111,7 @@ yield-sound v s g t f a = record {
   idle = grind arith;
 }
 
-pub hear-force-sound : (v : NodeValues) → settings-ok (v .settings) ≡ true → Runs v → Sound (hear-force v .values)
+pub hear-force-sound : (v : NodeValues) → settings-ok (v .settings) ≡ true → Runs v → Sound (open-both v .values)
 hear-force-sound v g t = record {
   settings = g;
   failed = refl;

@@ -36,8 +36,8 @@ use Rattle.node.specs.Claims.{claim-of, claim-rank, slot-rank, slot-if, standi
 use Rattle.node.specs.Names.{by-state, is-owner, is-other}
 use Rattle.node.specs.Ports.{some, implies, meet}
 use Rattle.node.specs.Receiving.{is-own, is-foreign-rb, noted, reaches-row, row-of, flush-logic, after-body, after-message}
-use Rattle.node.specs.Rows.{heard-forced, heard-fail, heard-manual, heard-rpl-blocked, heard-no-request, heard-row, higher, pend, present, yield, release, to-idle, moved, no-commands, quiet-unless-owner, await-wtr, await-wtb}
-use Rattle.node.specs.Rules.{makes-node, rest-ports, settings-ok, failed-ok, sending-ok, timers-ok, idle-ok}
+use Rattle.node.specs.Rows.{heard-forced, heard-fail, heard-manual, heard-rpl-blocked, heard-no-request, heard-row, higher, pend, present, yield-to, release, to-idle, moved, no-commands, quiet-unless-owner, await-wtr, await-wtb}
+use Rattle.node.specs.Rules.{makes-node, idle-ports, settings-ok, failed-ok, sending-ok, timers-ok, idle-ok}
 use Rattle.node.specs.Settling.{settle, settled}
 use Rattle.node.proofs.Actions.{Free, hear-force-sound, yield-sound, release-sound, pend-sound, present-sound}
 use Rattle.node.proofs.Keeps.{Keeps, none-failed}
@@ -85,7 +85,7 @@ heard-forced-keeps v s =
     in-state Keeps (v .state) _ _ _ _ _ (λ _. new) (λ _. new) (λ _. new) (λ _. s) (λ _. new)
 
 yields : (v : NodeValues) (u : State) → Sound v → by-state (v .state) true false true false true ≡ true
-    → by-state u (is-other (v .settings .role)) true true false true ≡ true → Sound (yield v u .values)
+    → by-state u (is-other (v .settings .role)) true true false true ≡ true → Sound (yield-to v u .values)
 yields v u s e a = yield-sound v u (s .settings) (s .timers) (none-failed v (s .failed) e) a
 
 heard-fail-keeps : (v : NodeValues) → Sound v → Sound (heard-fail v .values)
@@ -117,11 +117,11 @@ abbrev Marked : NodeValues → Type 0
 Marked v = implies (is-owner (v .settings .role)) (v .mismatch) ≡ true
 
 idle-hears : (v : NodeValues) → Forcing v → Speaks v → Rests v → v .state ≡ Idle
-    → sending-ok (v .settings .role) Idle (meet (v .blocked) (rest-ports (v .settings .role) (v .settings .rpl))) (v .failed) no-commands (quiet-unless-owner v) (v .mismatch) ≡ true
+    → sending-ok (v .settings .role) Idle (meet (v .blocked) (idle-ports (v .settings .role) (v .settings .rpl))) (v .failed) no-commands (quiet-unless-owner v) (v .mismatch) ≡ true
 idle-hears v c s i e = grind arith
 
 idle-rests : (v : NodeValues) → Rests v → v .state ≡ Idle
-    → idle-ok (v .settings .role) (v .settings .rpl) Idle (meet (v .blocked) (rest-ports (v .settings .role) (v .settings .rpl))) (v .mismatch) ≡ true
+    → idle-ok (v .settings .role) (v .settings .rpl) Idle (meet (v .blocked) (idle-ports (v .settings .role) (v .settings .rpl))) (v .mismatch) ≡ true
 idle-rests v i e = grind arith
 
 to-idle-speaks : (v : NodeValues) → Speaks v → Forcing v → Marked v → v .state ≡ Pending → Speaks (to-idle (v .settings .role) v)

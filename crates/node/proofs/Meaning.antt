@@ -1,12 +1,16 @@
 -- The laws of the calls. Assumes nothing.
 use mathlib.Core.Path.{_≡_, refl, sym, ap, _∙_}
 use mathlib.Core.Bool.{Bool, true, false, cond, not, _&&_, _||_}
-use Prim.Native.Nat.{ℕ, _≤_}
+use mathlib.Core.List.{List, [], _∷_}
+use Prim.Native.Nat.{ℕ, max, _≤_}
 use native.Mathlib.Omega.{arith}
 use lib.Dec.{eqb, ltb, lit≤}
 use Rattle.std.proofs.shelf.Ways.{tells}
-use Rattle.std.proofs.shelf.Tests.{and-parts, not-true, both-ways, ltb-false}
+use Rattle.std.proofs.shelf.Tests.{and-parts, not-true, both-ways, eq-eqb}
 use Rattle.std.specs.Options.{isSome}
+use Rattle.std.specs.declared.option.Option.{Option}
+use Rattle.std.specs.declared.option.Option.the-variants.{Some, None}
+use Rattle.frame.specs.Highest.{first-highest, highest-rank}
 use Rattle.fabric.specs.declared.types.Ports.{Ports}
 use Rattle.frame.specs.declared.types.Body.{Body}
 use Rattle.frame.specs.declared.types.Body.the-variants.{Event, Signal}
@@ -14,6 +18,10 @@ use Rattle.frame.specs.declared.types.Message.{Message}
 use Rattle.frame.specs.declared.types.NodeId.{NodeId}
 use Rattle.frame.specs.declared.types.Request.{Request}
 use Rattle.frame.specs.declared.types.Request.the-variants.{NoRequest, RplBlocked, ManualSwitch, SignalFail, ForcedSwitch}
+use Rattle.node.specs.declared.claims.Claim.{Claim}
+use Rattle.node.specs.declared.claims.Claim.the-variants.{Clear, LocalFail, LocalClearFail, WtrExpires, WtrRunning, WtbExpires, WtbRunning}
+use Rattle.node.specs.declared.claims.Claim.the-variants.{Forced as Forced-claim, Manual as Manual-claim}
+use Rattle.node.specs.declared.claims.Slot.{Slot}
 use Rattle.node.specs.declared.types.Heard.{Heard}
 use Rattle.node.specs.declared.types.NodeValues.{NodeValues}
 use Rattle.node.specs.declared.types.Outcome.{Outcome}
@@ -21,41 +29,45 @@ use Rattle.node.specs.declared.types.Port.{Port}
 use Rattle.node.specs.declared.types.Port.the-variants.{Zero, One}
 use Rattle.node.specs.declared.types.Role.{Role}
 use Rattle.node.specs.declared.types.Role.the-variants.{Other, Owner, Neighbour}
+use Rattle.node.specs.declared.types.State.{State}
 use Rattle.node.specs.declared.types.State.the-variants.{Idle, Protection, Pending}
 use Rattle.node.specs.declared.types.State.the-variants.{ManualSwitch as Manual, ForcedSwitch as Forced}
-use Rattle.node.specs.Calls.{takes-clear, takes-manual}
-use Rattle.node.specs.Claims.{claim-of, claim-rank, reaches}
-use Rattle.node.specs.Laws.{Call, forced, switched, failed, repaired, cleared, ticked, restarts, takes-frame, heard, after, Taken, is-heard, Keeps-a-block, Own-changes-nothing, Event-changes-nothing, Failed-marks, Forced-marks, Forces, Promised, Rules-promise, Mark-law, is-foreign, Rules-kept, named-port}
+use Rattle.node.specs.Calls.{Call, forced, switched, failed, repaired, cleared, ticked, restarts, takes-frame, heard, outcome, takes-clear, takes-manual}
+use Rattle.node.specs.Claims.{claim-of, claim-rank, slot-rank, slot-if, standing, fail-stands, is-first, reaches}
+use Rattle.node.specs.Laws.{after, May-be-taken, is-heard, Rules-kept, Keeps-a-block, Own-moves-no-port, Event-changes-no-value, Failed-marks, Forced-marks, Promised, Rules-promise, body-sets, sets-mark, Mark-law, Local-reaches, named-port}
 use Rattle.node.specs.Names.{by-state, is-owner, is-other, is-sending}
 use Rattle.node.specs.Ports.{none, only, at, with-mark, some, bpr-of, same, within}
 use Rattle.node.specs.Receiving.{is-own, is-rpl-blocked, is-foreign-rb, noted, reaches-row, row-of, flush-logic, after-signal, after-body, after-message}
-use Rattle.node.specs.Rows.{force-row, manual-row, fail-row, newly-failed, repair-row, repaired as repaired-row, clear-row, seize-failed, clear-fail, release, present, rest, heard-row, heard-forced, heard-fail, heard-manual, heard-rpl-blocked, heard-no-request, with-failed, to-idle, higher, pend, await-wtb, await-wtr, yield, still}
-use Rattle.node.specs.Rules.{makes-node, rest-ports, settings-ok}
+use Rattle.node.specs.Rows.{force-row, manual-row, fail-row, newly-failed, repair-row, repaired as repaired-row, clear-row, seize-failed, clear-fail, release, present, rest, heard-row, heard-forced, heard-fail, heard-manual, heard-rpl-blocked, heard-no-request, with-failed, to-idle, higher, pend, await-wtb, await-wtr, yield-to, still}
+use Rattle.node.specs.Rules.{makes-node, idle-ports, settings-ok}
 use Rattle.node.specs.Settling.{settle, lowered, tick-row, restarted, started, expires, is-due, frame-taken, with-pairs}
 use Rattle.node.proofs.Actions.{Free}
-use Rattle.node.proofs.Frames.{lowered-burst, restart-keeps, frame-burst}
+use Rattle.node.proofs.Frames.{lowered-burst, started-keeps, restart-keeps, frame-burst}
 use Rattle.node.proofs.Hearing.{message-keeps, free-of}
 use Rattle.node.proofs.Keeps.{waits, force-keeps, manual-keeps, fail-keeps, repair-keeps, clear-keeps, tick-keeps}
-use Rattle.node.proofs.Lawful.{Sound, Forcing, Speaks, Rests, parts, all-rules, owed}
+use Rattle.node.proofs.Lawful.{Sound, Failed, Forcing, Speaks, Runs, Rests, parts, all-rules, owed}
 use Rattle.node.proofs.Split.{in-state, in-cond}
 
 -- ---- every call keeps the rules
 
-pub rules-kept : Rules-kept
-rules-kept (forced p) v m t = let r = parts v m in owed v (force-row v p .values) (r .burst) (force-keeps v p (r .sound))
-rules-kept (switched p) v m t = let r = parts v m in owed v (manual-row v p .values) (r .burst) (manual-keeps v p t (r .sound))
-rules-kept (failed p) v m t = let r = parts v m in owed v (fail-row v p .values) (r .burst) (fail-keeps v p (r .sound))
-rules-kept (repaired p) v m t = let r = parts v m in owed v (repair-row v p .values) (r .burst) (repair-keeps v p (r .sound))
-rules-kept cleared v m t = let r = parts v m in owed v (clear-row v .values) (r .burst) (clear-keeps v t (r .sound))
-rules-kept ticked v m t = let r = parts v m in owed (lowered v) (tick-row v .values) (lowered-burst v (r .burst)) (tick-keeps v (r .sound))
-rules-kept restarts v m t = restart-keeps v (parts v m .sound .settings)
-rules-kept takes-frame v m t =
+calls-keep : (c : Call) (v : NodeValues) → makes-node v ≡ true → May-be-taken c v → makes-node (after c v) ≡ true
+calls-keep (forced p) v m t = let r = parts v m in owed v (force-row v p .values) (r .burst) (force-keeps v p (r .sound))
+calls-keep (switched p) v m t = let r = parts v m in owed v (manual-row v p .values) (r .burst) (manual-keeps v p t (r .sound))
+calls-keep (failed p) v m t = let r = parts v m in owed v (fail-row v p .values) (r .burst) (fail-keeps v p (r .sound))
+calls-keep (repaired p) v m t = let r = parts v m in owed v (repair-row v p .values) (r .burst) (repair-keeps v p (r .sound))
+calls-keep cleared v m t = let r = parts v m in owed v (clear-row v .values) (r .burst) (clear-keeps v t (r .sound))
+calls-keep ticked v m t = let r = parts v m in owed (lowered v) (tick-row v .values) (lowered-burst v (r .burst)) (tick-keeps v (r .sound))
+calls-keep restarts v m t = restart-keeps v (parts v m .sound .settings)
+calls-keep takes-frame v m t =
     let r = parts v m in
     let s = r .sound in
     all-rules (frame-taken v)
     (record { settings = s .settings; failed = s .failed; forced = s .forced; sending = s .sending; timers = s .timers; idle = s .idle })
     (frame-burst v t (r .burst))
-rules-kept (heard p q) v m t = let r = parts v m in message-keeps v p q (r .sound) (r .burst)
+calls-keep (heard p q) v m t = let r = parts v m in message-keeps v p q (r .sound) (r .burst)
+
+pub rules-kept : Rules-kept
+rules-kept = record { set-up = started-keeps; calls = calls-keep }
 
 -- ---- a call that is no delivery keeps a block
 
@@ -102,8 +114,8 @@ logic-blocked o One q = refl
 own-row : (v : NodeValues) (q : Heard) → is-own v (q .node) ≡ true → row-of v q .values .blocked ≡ v .blocked
 own-row v q e = grind arith
 
-pub own-changes-nothing : Own-changes-nothing
-own-changes-nothing v p m e = by-body (m .body)
+pub own-moves-no-port : Own-moves-no-port
+own-moves-no-port v p m e = by-body (m .body)
   where
     by-body : (b : Body) → after-body v p (m .node) b .values .blocked ≡ v .blocked
     by-body Event = refl
@@ -112,8 +124,8 @@ own-changes-nothing v p m e = by-body (m .body)
         in-cond (λ (o : Outcome). o .values .blocked ≡ v .blocked) (ltb 0 (v .timers .guard)) _ _ (λ _. refl)
         (λ _. logic-blocked (settle v (row-of v q)) p q ∙ own-row v q e)
 
-pub event-changes-nothing : Event-changes-nothing
-event-changes-nothing v p i = refl
+pub event-changes-no-value : Event-changes-no-value
+event-changes-no-value v p i = refl
 
 -- ---- failed marks
 
@@ -343,45 +355,42 @@ forced-marks = record {
 names-blocked : (v : NodeValues) → Speaks v → v .mismatch ≡ false → is-sending (v .sending .request) ≡ true → at (v .blocked) (named-port v) ≡ true
 names-blocked v s m e = grind arith
 
-rests-there : (v : NodeValues) → Rests v → v .mismatch ≡ false → v .state ≡ Idle → v .blocked ≡ rest-ports (v .settings .role) (v .settings .rpl)
+rests-there : (v : NodeValues) → Rests v → v .mismatch ≡ false → v .state ≡ Idle → v .blocked ≡ idle-ports (v .settings .role) (v .settings .rpl)
 rests-there v r m e = same-ports _ _ (idle-same v r m e)
   where
-    idle-same : (v : NodeValues) → Rests v → v .mismatch ≡ false → v .state ≡ Idle → same (v .blocked) (rest-ports (v .settings .role) (v .settings .rpl)) ≡ true
+    idle-same : (v : NodeValues) → Rests v → v .mismatch ≡ false → v .state ≡ Idle → same (v .blocked) (idle-ports (v .settings .role) (v .settings .rpl)) ≡ true
     idle-same v r m e = grind arith
 
+forced-blocked : (v : NodeValues) (p : Port) → Forcing v → at (v .commands .forced) p ≡ true → at (v .blocked) p ≡ true
+forced-blocked v p c e = grind arith
+
+not-failed : (v : NodeValues) (p : Port) → Failed v → at (v .failed) p ≡ true → by-state (v .state) true false true false true ≡ true → ⊥
+not-failed v p f e g = grind arith
+
+in-protection : (v : NodeValues) (p : Port) → Failed v → at (v .failed) p ≡ true → v .state ≡ Protection → at (v .blocked) p ≡ true
+in-protection v p f e g = grind arith
+
+by-cases : (s : State) (Q : Type 0) → (s ≡ Idle → Q) → (s ≡ Protection → Q) → (s ≡ Manual → Q) → (s ≡ Forced → Q) → (s ≡ Pending → Q) → Q
+by-cases Idle Q a b c d e = a refl
+by-cases Protection Q a b c d e = b refl
+by-cases Manual Q a b c d e = c refl
+by-cases Forced Q a b c d e = d refl
+by-cases Pending Q a b c d e = e refl
+
+failed-blocked : (v : NodeValues) (p : Port) → Failed v → at (v .failed) p ≡ true → (v .state ≡ Forced → ⊥) → at (v .blocked) p ≡ true
+failed-blocked v p f e n =
+    by-cases (v .state) (at (v .blocked) p ≡ true) (λ g. absurd (not-failed v p f e (rw g refl))) (in-protection v p f e)
+    (λ g. absurd (not-failed v p f e (rw g refl))) (λ g. absurd (n g)) (λ g. absurd (not-failed v p f e (rw g refl)))
+
 pub rules-promise : Rules-promise
-rules-promise v m n = record {
-  sender = names-blocked v (parts v m .sound .sending) n;
-  idle = rests-there v (parts v m .sound .idle) n;
+rules-promise v m = record {
+  forced = λ p e. forced-blocked v p (parts v m .sound .forced) e;
+  failed = λ p e n. failed-blocked v p (parts v m .sound .failed) e n;
+  sender = names-blocked v (parts v m .sound .sending);
+  idle = rests-there v (parts v m .sound .idle);
 }
 
 -- ---- the mark
-
-abbrev Bare : Outcome → Type 0
-Bare o = o .values .mismatch ≡ false
-
-released : (v : NodeValues) → v .mismatch ≡ false → release v .mismatch ≡ false
-released v e = in-cond (λ (w : NodeValues). w .mismatch ≡ false) (some (v .blocked)) _ _ (λ _. e) (λ _. e)
-
-presented : (v : NodeValues) → v .mismatch ≡ false → present v .values .mismatch ≡ false
-presented v e = in-cond Bare (some (v .failed)) _ _ (λ _. e) (λ _. e)
-
-local-mark : (c : Call) (v : NodeValues) → is-heard c ≡ false → v .mismatch ≡ false → after c v .mismatch ≡ false
-local-mark (forced p) v h e = in-state Bare (v .state) _ _ _ _ _ (λ _. e) (λ _. e) (λ _. e) (λ _. e) (λ _. e)
-local-mark (switched p) v h e = e
-local-mark (failed p) v h e =
-    in-cond Bare (at (v .failed) p) _ _ (λ _. e) (λ _. in-state Bare (v .state) _ _ _ _ _ (λ _. e) (λ _. e) (λ _. e) (λ _. e) (λ _. e))
-local-mark (repaired p) v h e =
-    in-cond Bare (at (v .failed) p) _ _
-    (λ _. in-state Bare (v .state) _ _ _ _ _ (λ _. e) (λ _. in-cond Bare (some (with-mark (v .failed) p false)) _ _ (λ _. e) (λ _. e)) (λ _. e) (λ _. e) (λ _. e))
-    (λ _. e)
-local-mark cleared v h e =
-    in-state Bare (v .state) _ _ _ _ _ (λ _. e) (λ _. e) (λ _. released v e) (λ _. presented (release v) (released v e))
-    (λ _. in-cond Bare (is-owner (v .settings .role)) _ _ (λ _. e) (λ _. e))
-local-mark ticked v h e = in-cond Bare (expires (v .timers)) _ _ (λ _. e) (λ _. e)
-local-mark restarts v h e = presented (started (v .settings) (v .failed)) refl
-local-mark takes-frame v h e = e
-local-mark (heard p m) v h e = absurd (both-ways true h refl)
 
 -- no row changes the mark
 abbrev Mark-of : NodeValues → Outcome → Type 0
@@ -417,20 +426,151 @@ row-mark : (v : NodeValues) (q : Heard) → row-of v q .values .mismatch ≡ not
 row-mark v q =
     in-cond (λ (o : Outcome). o .values .mismatch ≡ noted v q .mismatch) (reaches-row v q) _ _ (λ _. heard-mark (q .request) (noted v q) (q .node)) (λ _. refl)
 
-foreign : (v : NodeValues) (i : NodeId) (r : Request) (d b : Bool) → v .mismatch ≡ false
-    → (v .mismatch || is-foreign-rb v (record { node = i; request = r; dnf = d; bpr = b })) ≡ true
-    → (r ≡ RplBlocked) × (is-owner (v .settings .role) ≡ true) × (is-own v i ≡ false)
-foreign v i r d b m e = grind arith
+release-mark : (v : NodeValues) → release v .mismatch ≡ v .mismatch
+release-mark v = in-cond (λ (w : NodeValues). w .mismatch ≡ v .mismatch) (some (v .blocked)) _ _ (λ _. refl) (λ _. refl)
 
-message-mark : (v : NodeValues) (p : Port) (i : NodeId) (x : Body) → v .mismatch ≡ false → after-body v p i x .values .mismatch ≡ true
-    → is-foreign v (record { node = i; body = x })
-message-mark v p i Event m e = absurd (both-ways _ m e)
-message-mark v p i (Signal r d b) m e =
+present-mark : (v : NodeValues) → present v .values .mismatch ≡ v .mismatch
+present-mark v = in-cond (Mark-of v) (some (v .failed)) _ _ (λ _. refl) (λ _. refl)
+
+other-mark : (c : Call) (v : NodeValues) → is-heard c ≡ false → (c ≡ restarts → ⊥) → after c v .mismatch ≡ v .mismatch
+other-mark (forced p) v h n = in-state (Mark-of v) (v .state) _ _ _ _ _ (λ _. refl) (λ _. refl) (λ _. refl) (λ _. refl) (λ _. refl)
+other-mark (switched p) v h n = refl
+other-mark (failed p) v h n =
+    in-cond (Mark-of v) (at (v .failed) p) _ _ (λ _. refl)
+    (λ _. in-state (Mark-of v) (v .state) _ _ _ _ _ (λ _. refl) (λ _. refl) (λ _. refl) (λ _. refl) (λ _. refl))
+other-mark (repaired p) v h n =
+    in-cond (Mark-of v) (at (v .failed) p) _ _
+    (λ _. in-state (Mark-of v) (v .state) _ _ _ _ _ (λ _. refl)
+    (λ _. in-cond (Mark-of v) (some (with-mark (v .failed) p false)) _ _ (λ _. refl) (λ _. refl)) (λ _. refl) (λ _. refl) (λ _. refl))
+    (λ _. refl)
+other-mark cleared v h n =
+    in-state (Mark-of v) (v .state) _ _ _ _ _ (λ _. refl) (λ _. refl) (λ _. release-mark v) (λ _. present-mark (release v) ∙ release-mark v)
+    (λ _. in-cond (Mark-of v) (is-owner (v .settings .role)) _ _ (λ _. refl) (λ _. refl))
+other-mark ticked v h n = in-cond (Mark-of v) (expires (v .timers)) _ _ (λ _. refl) (λ _. refl)
+other-mark restarts v h n = absurd (n refl)
+other-mark takes-frame v h n = refl
+other-mark (heard p m) v h n = absurd (both-ways true h refl)
+
+or-false : (a : Bool) → a ≡ (a || false)
+or-false true = refl
+or-false false = refl
+
+no-guard : (n : ℕ) → ltb 0 n ≡ false → eqb n 0 ≡ true
+no-guard n e = grind (arith, tells)
+
+guarded : (n : ℕ) → ltb 0 n ≡ true → eqb n 0 ≡ false
+guarded n e = grind (arith, tells)
+
+message-mark : (v : NodeValues) (p : Port) (i : NodeId) (x : Body) → after-body v p i x .values .mismatch ≡ (v .mismatch || body-sets v i x)
+message-mark v p i Event = or-false (v .mismatch)
+message-mark v p i (Signal r d b) =
     let q : Heard = record { node = i; request = r; dnf = d; bpr = b } in
-    (in-cond (λ (o : Outcome). o .values .mismatch ≡ true → is-foreign v (record { node = i; body = Signal r d b })) (ltb 0 (v .timers .guard)) _ _
-    (λ _ e. absurd (both-ways _ m e))
-    (λ g e. let f = foreign v i r d b m (sym (logic-same (λ w. w .mismatch) (λ _ _ _. refl) (settle v (row-of v q)) p q ∙ row-mark v q) ∙ e) in
-    (d, b, ap (λ x. Signal x d b) (f .0), f .1, f .2, omega (arith, ltb-false 0 (v .timers .guard) g)))) e
+    in-cond (λ (o : Outcome). o .values .mismatch ≡ (v .mismatch || body-sets v i (Signal r d b))) (ltb 0 (v .timers .guard)) _ _
+    (λ g. rw (guarded (v .timers .guard) g) (or-false (v .mismatch)))
+    (λ g. rw (no-guard (v .timers .guard) g) (logic-same (λ w. w .mismatch) (λ _ _ _. refl) (settle v (row-of v q)) p q ∙ row-mark v q))
 
 pub mark-law : Mark-law
-mark-law = record { local = local-mark; hears = λ v p m n e. message-mark v p (m .node) (m .body) n e }
+mark-law = record {
+  hears = λ v p m. message-mark v p (m .node) (m .body);
+  restart = λ v. present-mark (started (v .settings) (v .failed));
+  others = other-mark;
+}
+
+-- ---- local requests
+
+tops : (b : Bool) (o : Option ℕ) → b ≡ true → is-first (cond b (Some 0) o) ≡ true
+tops true o e = refl
+tops false o e = absurd (both-ways false refl e)
+
+-- what nothing standing outranks reaches its row
+reaches-if : (v : NodeValues) (c : Claim) → highest-rank slot-rank (standing v) ≤ claim-rank c → reaches v c ≡ true
+unfolding reaches first-highest
+reaches-if v c l =
+    let same : claim-rank c ≡ max (claim-rank c) (highest-rank slot-rank (standing v)) = omega arith in
+    tops _ _ (eq-eqb _ _ same)
+
+abbrev five : Bool → Bool → Bool → Bool → Bool → List Slot
+five a b c d e = slot-if a Forced-claim ∷ slot-if b LocalFail ∷ slot-if c Manual-claim ∷ slot-if d WtrRunning ∷ slot-if e WtbRunning ∷ []
+
+slot-low : (b : Bool) (c : Claim) → slot-rank (slot-if b c) ≤ claim-rank c
+slot-low true c = omega arith
+slot-low false c = omega arith
+
+all-low : (a b c d e : Bool) → highest-rank slot-rank (five a b c d e) ≤ 13
+all-low a b c d e =
+    omega (arith, slot-low a Forced-claim, slot-low b LocalFail, slot-low c Manual-claim, slot-low d WtrRunning, slot-low e WtbRunning)
+
+no-force-low : (a b c d e : Bool) → a ≡ false → highest-rank slot-rank (five a b c d e) ≤ 11
+no-force-low true b c d e z = absurd (both-ways true z refl)
+no-force-low false b c d e z = omega (arith, slot-low b LocalFail, slot-low c Manual-claim, slot-low d WtrRunning, slot-low e WtbRunning)
+
+no-fail-low : (a b c d e : Bool) → a ≡ false → b ≡ false → highest-rank slot-rank (five a b c d e) ≤ 7
+no-fail-low true b c d e z y = absurd (both-ways true z refl)
+no-fail-low false true c d e z y = absurd (both-ways true y refl)
+no-fail-low false false c d e z y = omega (arith, slot-low c Manual-claim, slot-low d WtrRunning, slot-low e WtbRunning)
+
+timers-low : (a b c d e : Bool) → a ≡ false → b ≡ false → c ≡ false → highest-rank slot-rank (five a b c d e) ≤ 5
+timers-low true b c d e z y x = absurd (both-ways true z refl)
+timers-low false true c d e z y x = absurd (both-ways true y refl)
+timers-low false false true d e z y x = absurd (both-ways true x refl)
+timers-low false false false d e z y x = omega (arith, slot-low d WtrRunning, slot-low e WtbRunning)
+
+wtb-low : (a b c d e : Bool) → a ≡ false → b ≡ false → c ≡ false → d ≡ false → highest-rank slot-rank (five a b c d e) ≤ 3
+wtb-low true b c d e z y x w = absurd (both-ways true z refl)
+wtb-low false true c d e z y x w = absurd (both-ways true y refl)
+wtb-low false false true d e z y x w = absurd (both-ways true x refl)
+wtb-low false false false true e z y x w = absurd (both-ways true w refl)
+wtb-low false false false false e z y x w = omega (arith, slot-low e WtbRunning)
+
+no-force : (v : NodeValues) → Forcing v → by-state (v .state) true true true false true ≡ true → some (v .commands .forced) ≡ false
+no-force v c e = grind arith
+
+no-manual : (v : NodeValues) → Forcing v → by-state (v .state) true true false true true ≡ true → isSome (v .commands .manual) ≡ false
+no-manual v c e = grind arith
+
+no-fail : (v : NodeValues) → Failed v → by-state (v .state) true false true true true ≡ true → fail-stands v ≡ false
+no-fail v f e = grind arith
+
+-- a delay timer that runs means pending, and that the other does not run
+wtr-waits : (v : NodeValues) → Runs v → v .timers .wtr ≡ 1 → v .state ≡ Pending
+wtr-waits v t e = grind (arith, tells)
+
+wtb-waits : (v : NodeValues) → Runs v → v .timers .wtb ≡ 1 → (v .state ≡ Pending) × (ltb 0 (v .timers .wtr) ≡ false)
+wtb-waits v t e = grind (arith, tells)
+
+outside : (s : State) → (s ≡ Forced → ⊥) → by-state s true true true false true ≡ true
+outside Idle n = refl
+outside Protection n = refl
+outside Manual n = refl
+outside Forced n = absurd (n refl)
+outside Pending n = refl
+
+none-counts : (v : NodeValues) → some (v .failed) ≡ false → fail-stands v ≡ false
+none-counts v f = grind arith
+
+le-ten : {n : ℕ} → n ≤ 5 → n ≤ 10
+le-ten l = omega arith
+
+le-six : {n : ℕ} → n ≤ 5 → n ≤ 6
+le-six l = omega arith
+
+le-four : {n : ℕ} → n ≤ 3 → n ≤ 4
+le-four l = omega arith
+
+le-fourteen : {n : ℕ} → n ≤ 13 → n ≤ 14
+le-fourteen l = omega arith
+
+pub local-reaches : Local-reaches
+local-reaches = record {
+  clear = λ v. reaches-if v Clear (le-fourteen (all-low _ _ _ _ _));
+  force = λ v. reaches-if v Forced-claim (all-low _ _ _ _ _);
+  manual = λ v m t. let s = parts v m .sound in
+      reaches-if v Manual-claim (no-fail-low _ _ _ _ _ (no-force v (s .forced) (grind arith)) (no-fail v (s .failed) (grind arith)));
+  fail = λ v m n. reaches-if v LocalFail (no-force-low _ _ _ _ _ (no-force v (parts v m .sound .forced) (outside (v .state) n)));
+  clear-fail = λ v m e f. let s = parts v m .sound in
+      reaches-if v LocalClearFail (le-ten (timers-low _ _ _ _ _ (no-force v (s .forced) (rw e refl)) (none-counts v f) (no-manual v (s .forced) (rw e refl))));
+  wtr = λ v m e. let s = parts v m .sound in let p = wtr-waits v (s .timers) e in
+      reaches-if v WtrExpires (le-six (timers-low _ _ _ _ _ (no-force v (s .forced) (rw p refl)) (no-fail v (s .failed) (rw p refl)) (no-manual v (s .forced) (rw p refl))));
+  wtb = λ v m e. let s = parts v m .sound in let p = wtb-waits v (s .timers) e in
+      reaches-if v WtbExpires (le-four (wtb-low _ _ _ _ _ (no-force v (s .forced) (rw (p .0) refl)) (no-fail v (s .failed) (rw (p .0) refl)) (no-manual v (s .forced) (rw (p .0) refl)) (p .1)));
+}

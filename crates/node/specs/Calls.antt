@@ -32,10 +32,33 @@ use Rattle.node.specs.Faults.{node-refusal, with-port}
 use Rattle.node.specs.Names.{by-state, is-owner}
 use Rattle.node.specs.Ports.{none, some, bpr-of}
 use Rattle.node.specs.Receiving.{after-message}
-use Rattle.node.specs.Rows.{gives, force-row, manual-row, fail-row, repair-row, clear-row}
+use Rattle.node.specs.Rows.{still, force-row, manual-row, fail-row, repair-row, clear-row}
 use Rattle.node.specs.Rules.{settings-ok}
 use Rattle.node.specs.Settling.{settle, lowered, tick-row, started, restarted, is-due, frame-taken}
 
+-- ---- what each call does to a node that takes it
+
+-- a call that a node takes; a frame request gives the frame besides
+pub data Call : Type 0 where
+  forced switched failed repaired : Port → Call
+  cleared ticked restarts takes-frame : Call
+  heard : Port → Message → Call
+
+-- the values after it, and whether it flushes: the row, then burst and pairs
+abbrev pub outcome : Call → NodeValues → Outcome
+outcome (forced p) v = settle v (force-row v p)
+outcome (switched p) v = settle v (manual-row v p)
+outcome (failed p) v = settle v (fail-row v p)
+outcome (repaired p) v = settle v (repair-row v p)
+outcome cleared v = settle v (clear-row v)
+outcome ticked v = settle (lowered v) (tick-row v)
+outcome restarts v = restarted v
+outcome takes-frame v = still (frame-taken v)
+outcome (heard p m) v = after-message v p m
+
+-- ---- refusals, and the fabric
+
+-- what a call answers, and what it leaves in the node and in the fabric
 pub record Step : Type 0 where
   pub answer : Answer (Unit {0})
   pub values : NodeValues
@@ -90,7 +113,7 @@ step-in v m (Err e) next = turned-away v m (node-refusal None e)
 -- ---- the calls
 
 abbrev pub force-step : NodeValues → Marks → ℕ → Step
-force-step v m p = step-at v m p (admitted v m p) (λ q. taken m (settle v (force-row v q)))
+force-step v m p = step-at v m p (admitted v m p) (λ q. taken m (outcome (forced q) v))
 
 -- MS is taken in idle and pending
 abbrev pub takes-manual : NodeValues → Bool
@@ -99,13 +122,13 @@ takes-manual v = by-state (v .state) true false false false true
 abbrev pub manual-step : NodeValues → Marks → ℕ → Step
 manual-step v m p =
     step-at v m p (admitted v m p)
-    (λ q. cond (takes-manual v) (taken m (settle v (manual-row v q))) (turned-away v m (node-refusal (Some p) (NotNow p))))
+    (λ q. cond (takes-manual v) (taken m (outcome (switched q) v)) (turned-away v m (node-refusal (Some p) (NotNow p))))
 
 abbrev pub fail-step : NodeValues → Marks → ℕ → Step
-fail-step v m p = step-at v m p (admitted v m p) (λ q. taken m (settle v (fail-row v q)))
+fail-step v m p = step-at v m p (admitted v m p) (λ q. taken m (outcome (failed q) v))
 
 abbrev pub repair-step : NodeValues → Marks → ℕ → Step
-repair-step v m p = step-at v m p (admitted v m p) (λ q. taken m (settle v (repair-row v q)))
+repair-step v m p = step-at v m p (admitted v m p) (λ q. taken m (outcome (repaired q) v))
 
 -- Clear is taken with a command in force, and at the owner in idle, protection and pending
 abbrev pub takes-clear : NodeValues → Bool
@@ -116,16 +139,16 @@ takes-clear v =
 abbrev pub clear-step : NodeValues → Marks → Step
 clear-step v m =
     step-in v m (in-step (v .blocked) (m .blocked))
-    (cond (takes-clear v) (taken m (settle v (clear-row v))) (turned-away v m (node-refusal None NothingToClear)))
+    (cond (takes-clear v) (taken m (outcome cleared v)) (turned-away v m (node-refusal None NothingToClear)))
 
 abbrev pub tick-step : NodeValues → Marks → Step
-tick-step v m = step-in v m (in-step (v .blocked) (m .blocked)) (taken m (settle (lowered v) (tick-row v)))
+tick-step v m = step-in v m (in-step (v .blocked) (m .blocked)) (taken m (outcome ticked v))
 
 abbrev pub message-step : NodeValues → Marks → ℕ → Message → Step
-message-step v m p q = step-at v m p (admitted v m p) (λ r. taken m (after-message v r q))
+message-step v m p q = step-at v m p (admitted v m p) (λ r. taken m (outcome (heard r q) v))
 
 abbrev pub restart-step : NodeValues → Marks → Step
-restart-step v m = taken m (restarted v)
+restart-step v m = taken m (outcome restarts v)
 
 -- what a frame says to a node at a port: 8, 9, 1 to 6
 abbrev pub said-at : ℕ → Answer Message → Answer Message
@@ -176,7 +199,7 @@ frame-answer v buffer =
     (cond (is-due v) (gave tt) (refused (node-refusal None NoFrameDue)))
 
 abbrev pub frame-values : NodeValues → List ℕ → NodeValues
-frame-values v buffer = cond (ltb (length buffer) 55) v (cond (is-due v) (frame-taken v) v)
+frame-values v buffer = cond (ltb (length buffer) 55) v (cond (is-due v) (outcome takes-frame v .values) v)
 
 abbrev pub octets-of : NodeValues → Option Message → List ℕ → List ℕ
 octets-of v None buffer = buffer

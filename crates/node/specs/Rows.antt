@@ -22,7 +22,7 @@ use Rattle.node.specs.declared.types.State.the-variants.{ManualSwitch as Manua
 use Rattle.node.specs.declared.types.Timers.{Timers}
 use Rattle.node.specs.Names.{by-state, is-owner, is-other, guard-start, wtr-start, wtb-start}
 use Rattle.node.specs.Ports.{none, only, at, with-mark, some, within, meet}
-use Rattle.node.specs.Rules.{rest-ports}
+use Rattle.node.specs.Rules.{idle-ports}
 
 -- ---- what rows are made of
 
@@ -113,8 +113,8 @@ release v = cond (some (v .blocked))
     (moved v Pending (v .blocked) no-commands (v .sending) (v .timers))
 
 -- Yield: open ports without failure, stop sending
-abbrev pub yield : NodeValues → State → Outcome
-yield v s = still (moved v s (meet (v .blocked) (v .failed)) no-commands silent (stopped (v .timers)))
+abbrev pub yield-to : NodeValues → State → Outcome
+yield-to v s = still (moved v s (meet (v .blocked) (v .failed)) no-commands silent (stopped (v .timers)))
 
 -- go to pending; what is sent stays
 abbrev pub pend : NodeValues → Timers → NodeValues
@@ -171,24 +171,24 @@ repair-row v p = cond (at (v .failed) p) (repaired (with-failed v (with-mark (v 
 -- ---- the rows of received messages
 
 -- R-APS(FS): outside forced switch open both, stop sending
-abbrev pub hear-force : NodeValues → Outcome
-hear-force v = still (moved v Forced none no-commands silent (stopped (v .timers)))
+abbrev pub open-both : NodeValues → Outcome
+open-both v = still (moved v Forced none no-commands silent (stopped (v .timers)))
 
 abbrev pub heard-forced : NodeValues → Outcome
-heard-forced v = by-state (v .state) (hear-force v) (hear-force v) (hear-force v) (still v) (hear-force v)
+heard-forced v = by-state (v .state) (open-both v) (open-both v) (open-both v) (still v) (open-both v)
 
 -- R-APS(SF)
 abbrev pub heard-fail : NodeValues → Outcome
-heard-fail v = by-state (v .state) (yield v Protection) (still v) (yield v Protection) (still v) (yield v Protection)
+heard-fail v = by-state (v .state) (yield-to v Protection) (still v) (yield-to v Protection) (still v) (yield-to v Protection)
 
 -- R-APS(MS)
 abbrev pub heard-manual : NodeValues → Outcome
 heard-manual v = by-state (v .state)
-    (yield v Manual)
+    (yield-to v Manual)
     (still v)
     (still (cond (some (v .blocked)) (release v) v))
     (still v)
-    (yield v Manual)
+    (yield-to v Manual)
 
 -- R-APS(NR,RB): all but the owner stop sending in idle
 abbrev pub quiet-unless-owner : NodeValues → Sending
@@ -202,7 +202,7 @@ to-idle Neighbour v = moved v Idle (only (v .settings .rpl)) no-commands silent 
 
 abbrev pub heard-rpl-blocked : NodeValues → Outcome
 heard-rpl-blocked v = by-state (v .state)
-    (still (moved v Idle (meet (v .blocked) (rest-ports (v .settings .role) (v .settings .rpl))) no-commands (quiet-unless-owner v) (v .timers)))
+    (still (moved v Idle (meet (v .blocked) (idle-ports (v .settings .role) (v .settings .rpl))) no-commands (quiet-unless-owner v) (v .timers)))
     (still (pend v (v .timers)))
     (still (pend v (v .timers)))
     (present (pend v (v .timers)))
@@ -214,11 +214,11 @@ higher v n = ltb (id-number (v .settings .id)) (id-number n)
 
 abbrev pub heard-no-request : NodeValues → NodeId → Outcome
 heard-no-request v n = by-state (v .state)
-    (cond (is-other (v .settings .role) && higher v n) (yield v Idle) (still v))
+    (cond (is-other (v .settings .role) && higher v n) (yield-to v Idle) (still v))
     (still (pend v (await-wtr v (v .timers .guard))))
     (still (pend v (await-wtb v (v .timers .guard))))
     (present (pend v (await-wtb v (v .timers .guard))))
-    (cond (higher v n) (yield v Pending) (still v))
+    (cond (higher v n) (yield-to v Pending) (still v))
 
 abbrev pub heard-row : Request → NodeValues → NodeId → Outcome
 heard-row ForcedSwitch v n = heard-forced v

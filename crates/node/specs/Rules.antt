@@ -88,14 +88,14 @@ timers-ok r revertive s t =
     && waits-ok (is-owner r && (revertive && by-state s false false false false true)) (t .wtr) (t .wtb)
 
 -- the ports that an idle station blocks: owner and neighbour the RPL port, any other none
-abbrev pub rest-ports : Role → Port → Ports
-rest-ports Other p = none
-rest-ports Owner p = only p
-rest-ports Neighbour p = only p
+abbrev pub idle-ports : Role → Port → Ports
+idle-ports Other p = none
+idle-ports Owner p = only p
+idle-ports Neighbour p = only p
 
 -- without the mismatch mark, an idle station blocks these and no other
 abbrev pub idle-ok : Role → Port → State → Ports → Bool → Bool
-idle-ok r rpl s blocked mismatch = mismatch || by-state s (same blocked (rest-ports r rpl)) true true true true
+idle-ok r rpl s blocked mismatch = mismatch || by-state s (same blocked (idle-ports r rpl)) true true true true
 
 -- all of them
 abbrev pub makes-node : NodeValues → Bool

@@ -30,8 +30,8 @@ same-sent v w =
     && (Bool·beq (v .sending .dnf) (w .sending .dnf) && Bool·beq (bpr-of (v .blocked)) (bpr-of (w .blocked)))
 
 -- a port went from open to blocked
-abbrev pub newly : Ports → Ports → Bool
-newly b c = (c .p0 && not (b .p0)) || (c .p1 && not (b .p1))
+abbrev pub newly-blocked : Ports → Ports → Bool
+newly-blocked b c = (c .p0 && not (b .p0)) || (c .p1 && not (b .p1))
 
 -- three frames are due and the wait is 0; nothing while nothing is sent
 abbrev pub fresh-due : Option Request → Due
@@ -74,8 +74,8 @@ with-pairs v a b = record {
 abbrev pub settled : NodeValues → NodeValues → NodeValues
 settled v w =
     with-pairs (with-due w (cond (same-sent v w) (v .due) (fresh-due (w .sending .request))))
-    (cond (newly (v .blocked) (w .blocked)) zero-pair (w .pair0))
-    (cond (newly (v .blocked) (w .blocked)) zero-pair (w .pair1))
+    (cond (newly-blocked (v .blocked) (w .blocked)) zero-pair (w .pair0))
+    (cond (newly-blocked (v .blocked) (w .blocked)) zero-pair (w .pair1))
 
 abbrev pub settle : NodeValues → Outcome → Outcome
 settle v o = gives (settled v (o .values)) (o .flush)

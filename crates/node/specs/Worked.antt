@@ -15,9 +15,10 @@ use Rattle.node.specs.declared.types.Role.the-variants.{Other, Owner}
 use Rattle.node.specs.declared.types.Settings.{Settings}
 use Rattle.node.specs.declared.types.State.the-variants.{Idle, Protection, Pending}
 use Rattle.node.specs.declared.types.State.the-variants.{ForcedSwitch as Forced}
-use Rattle.node.specs.Laws.{forced, failed, repaired, cleared, ticked, heard, after}
+use Rattle.node.specs.Calls.{forced, failed, repaired, cleared, ticked, heard, outcome}
+use Rattle.node.specs.Laws.{after}
 use Rattle.node.specs.Ports.{none, only}
-use Rattle.node.specs.Rows.{send, silent, force-row}
+use Rattle.node.specs.Rows.{send, silent, still}
 use Rattle.node.specs.Settling.{started}
 
 -- an ID that ends in this octet, the first five alike
@@ -62,7 +63,7 @@ idle-owner = after-ticks 30000 new-owner
 pub record Forced-at-rpl : Type 0 where
   pub state : after (forced Zero) idle-owner .state ≡ Forced
   pub sends : after (forced Zero) idle-owner .sending ≡ send ForcedSwitch true
-  pub flush : force-row idle-owner Zero .flush ≡ false
+  pub flush : outcome (forced Zero) idle-owner .flush ≡ false
 
 -- a new node of role other whose ID ends in 05 hears NR
 abbrev pub new-other : NodeValues
@@ -73,7 +74,8 @@ nr-from k = record { node = id-ending k; body = Signal NoRequest false false }
 
 pub record Hears-no-request : Type 0 where
   pub higher : after (heard Zero (nr-from 9)) new-other .blocked ≡ none
-  pub lower : after (heard Zero (nr-from 3)) new-other ≡ new-other
+  pub quiet : after (heard Zero (nr-from 9)) new-other .sending ≡ silent
+  pub lower : outcome (heard Zero (nr-from 3)) new-other ≡ still new-other
 
 -- both ports failed, port 1 repaired
 abbrev pub one-repaired : NodeValues

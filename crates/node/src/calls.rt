@@ -12,7 +12,7 @@ ghost use Rattle.node.specs.Faults.{node-refusal, told-at};
 ghost use Rattle.node.specs.Ports.{none};
 ghost use Rattle.node.specs.Rules.{makes-node, settings-ok};
 ghost use Rattle.node.specs.Settling.{started};
-use crate::check::settings_rule;
+use crate::check::settings_ok;
 use crate::drive::admit;
 use crate::drive::check_in_step;
 use crate::drive::drive;
@@ -20,19 +20,19 @@ use crate::faults::NodeFault;
 use crate::faults::NodeFaultFromFrame;
 use crate::node::Node;
 use crate::ports::NO_PORT;
-use crate::ports::some_marked;
-use crate::receiving::hear;
+use crate::ports::some;
+use crate::receiving::after_message;
+use crate::rows::clear_row;
+use crate::rows::fail_row;
+use crate::rows::force_row;
 use crate::rows::is_owner;
-use crate::rows::row_clear;
-use crate::rows::row_fail;
-use crate::rows::row_force;
-use crate::rows::row_manual;
-use crate::rows::row_repair;
-use crate::settling::lower;
-use crate::settling::row_tick;
-use crate::settling::settle_after;
-use crate::settling::start;
-use crate::settling::start_again;
+use crate::rows::manual_row;
+use crate::rows::repair_row;
+use crate::settling::lowered;
+use crate::settling::restarted;
+use crate::settling::settle;
+use crate::settling::started;
+use crate::settling::tick_row;
 use crate::types::NodeValues;
 use crate::types::Outcome;
 use crate::types::Settings;
@@ -55,7 +55,7 @@ fn takes_clear(values: NodeValues) -> bool
         State::Idle | State::Protection | State::Pending => is_owner(values.settings.role),
         State::ManualSwitch | State::ForcedSwitch => false,
     };
-    some_marked(values.commands.forced) | (values.commands.manual.is_some() | at_owner)
+    some(values.commands.forced) | (values.commands.manual.is_some() | at_owner)
 }
 
 impl Node {
@@ -85,10 +85,10 @@ impl Node {
         ensures kept { λ _. ⌜ kept (now (fabric .exit)) ≡ kept (now (fabric .entry)) ⌝ }
         ensures untouched { λ r. ⌜ ((e : NodeFault) → r ≡ Err e → now (fabric .exit) ≡ now (fabric .entry)) ⌝ }
     {
-        if !settings_rule(settings) {
+        if !settings_ok(settings) {
             return Err(NodeFault::Settings);
         }
-        let values = start(settings, NO_PORT);
+        let values = started(settings, NO_PORT);
         drive(fabric, values.blocked, false);
         Ok(Node { values })
     }
@@ -102,7 +102,7 @@ impl Node {
         ensures untouched { λ r. ⌜ ((e : NodeFault) → r ≡ Err e → now (fabric .exit) ≡ now (fabric .entry)) ⌝ }
     {
         let at = admit(&self.values, fabric, port)?;
-        let o = settle_after(self.values, row_force(self.values, at));
+        let o = settle(self.values, force_row(self.values, at));
         self.commit(fabric, o);
         Ok(())
     }
@@ -119,7 +119,7 @@ impl Node {
         if !takes_manual(self.values) {
             return Err(NodeFault::NotNow { port });
         }
-        let o = settle_after(self.values, row_manual(self.values, at));
+        let o = settle(self.values, manual_row(self.values, at));
         self.commit(fabric, o);
         Ok(())
     }
@@ -136,7 +136,7 @@ impl Node {
         if !takes_clear(self.values) {
             return Err(NodeFault::NothingToClear);
         }
-        let o = settle_after(self.values, row_clear(self.values));
+        let o = settle(self.values, clear_row(self.values));
         self.commit(fabric, o);
         Ok(())
     }
@@ -150,7 +150,7 @@ impl Node {
         ensures untouched { λ r. ⌜ ((e : NodeFault) → r ≡ Err e → now (fabric .exit) ≡ now (fabric .entry)) ⌝ }
     {
         let at = admit(&self.values, fabric, port)?;
-        let o = settle_after(self.values, row_fail(self.values, at));
+        let o = settle(self.values, fail_row(self.values, at));
         self.commit(fabric, o);
         Ok(())
     }
@@ -164,7 +164,7 @@ impl Node {
         ensures untouched { λ r. ⌜ ((e : NodeFault) → r ≡ Err e → now (fabric .exit) ≡ now (fabric .entry)) ⌝ }
     {
         let at = admit(&self.values, fabric, port)?;
-        let o = settle_after(self.values, row_repair(self.values, at));
+        let o = settle(self.values, repair_row(self.values, at));
         self.commit(fabric, o);
         Ok(())
     }
@@ -178,7 +178,7 @@ impl Node {
         ensures untouched { λ r. ⌜ ((e : NodeFault) → r ≡ Err e → now (fabric .exit) ≡ now (fabric .entry)) ⌝ }
     {
         check_in_step(&self.values, fabric)?;
-        let o = settle_after(lower(self.values), row_tick(self.values));
+        let o = settle(lowered(self.values), tick_row(self.values));
         self.commit(fabric, o);
         Ok(())
     }
@@ -189,7 +189,7 @@ impl Node {
         ensures marks { λ _. ⌜ marks (now (fabric .exit)) ≡ restart-step (now (self .entry) .values) (marks (now (fabric .entry))) .marks ⌝ }
         ensures kept { λ _. ⌜ kept (now (fabric .exit)) ≡ kept (now (fabric .entry)) ⌝ }
     {
-        let o = start_again(self.values);
+        let o = restarted(self.values);
         self.commit(fabric, o);
     }
 
@@ -221,7 +221,7 @@ impl Node {
         ensures untouched { λ r. ⌜ ((e : NodeFault) → r ≡ Err e → now (fabric .exit) ≡ now (fabric .entry)) ⌝ }
     {
         let at = admit(&self.values, fabric, port)?;
-        let o = hear(self.values, at, message);
+        let o = after_message(self.values, at, message);
         self.commit(fabric, o);
         Ok(())
     }

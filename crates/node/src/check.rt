@@ -5,10 +5,10 @@ ghost use Rattle.std.specs.Options.{Cases};
 ghost use Rattle.node.specs.Names.{by-state};
 ghost use Rattle.node.specs.Rules.{burst-ok, failed-ok, forced-ok, idle-ok, makes-node, message-ok, none-in-force, rpl-fits, sending-ok, settings-ok, timers-ok};
 use crate::node::Node;
-use crate::ports::agree;
-use crate::ports::is_marked;
-use crate::ports::lies_within;
-use crate::ports::some_marked;
+use crate::ports::at;
+use crate::ports::same;
+use crate::ports::some;
+use crate::ports::within;
 use crate::receiving::idle_ports;
 use crate::rows::is_owner;
 use crate::settling::is_sending;
@@ -31,42 +31,42 @@ fn rpl_fits(role: Role, rpl: Port) -> bool
     !matches!((role, rpl), (Role::Other, Port::One))
 }
 
-pub(crate) fn settings_rule(settings: Settings) -> bool
+pub(crate) fn settings_ok(settings: Settings) -> bool
     ensures { λ r. ⌜ r ≡ settings-ok settings ⌝ }
 {
     is_in_range(settings.id, settings.channel, settings.mel)
         && rpl_fits(settings.role, settings.rpl)
 }
 
-fn failed_rule(state: State, blocked: Ports, failed: Ports) -> bool
+fn failed_ok(state: State, blocked: Ports, failed: Ports) -> bool
     ensures { λ r. ⌜ r ≡ failed-ok state blocked failed ⌝ }
 {
     match state {
-        State::Protection => lies_within(failed, blocked),
+        State::Protection => within(failed, blocked),
         State::ForcedSwitch => true,
-        _ => !some_marked(failed),
+        _ => !some(failed),
     }
 }
 
-fn nothing_in_force(commands: Commands) -> bool
+fn none_in_force(commands: Commands) -> bool
     ensures { λ r. ⌜ r ≡ none-in-force commands ⌝ }
 {
-    !some_marked(commands.forced) & commands.manual.is_none()
+    !some(commands.forced) & commands.manual.is_none()
 }
 
-fn forced_rule(state: State, blocked: Ports, commands: Commands) -> bool
+fn forced_ok(state: State, blocked: Ports, commands: Commands) -> bool
     ensures { λ r. ⌜ r ≡ forced-ok state blocked commands ⌝ }
 {
     match state {
         State::ManualSwitch => {
-            !some_marked(commands.forced)
+            !some(commands.forced)
                 & match commands.manual {
-                    Some(port) => is_marked(blocked, port),
+                    Some(port) => at(blocked, port),
                     None => true,
                 }
         }
-        State::ForcedSwitch => lies_within(commands.forced, blocked) & commands.manual.is_none(),
-        _ => nothing_in_force(commands),
+        State::ForcedSwitch => within(commands.forced, blocked) & commands.manual.is_none(),
+        _ => none_in_force(commands),
     }
 }
 
@@ -82,7 +82,7 @@ fn is_pending(state: State) -> bool
     matches!(state, State::Pending)
 }
 
-fn message_rule(
+fn message_ok(
     request: Option<Request>,
     role: Role,
     state: State,
@@ -98,19 +98,19 @@ fn message_rule(
         Some(Request::NoRequest) => !dnf & (is_pending(state) | (is_owner(role) & mismatch)),
         Some(Request::RplBlocked) => is_owner(role) & is_idle(state),
         Some(Request::SignalFail) => match state {
-            State::Protection => some_marked(failed),
+            State::Protection => some(failed),
             _ => false,
         },
         Some(Request::ManualSwitch) => commands.manual.is_some(),
-        Some(Request::ForcedSwitch) => some_marked(commands.forced),
+        Some(Request::ForcedSwitch) => some(commands.forced),
     }
 }
 
-fn sending_rule(values: NodeValues) -> bool
+fn sending_ok(values: NodeValues) -> bool
     ensures { λ r. ⌜ r ≡ sending-ok (values .settings .role) (values .state) (values .blocked) (values .failed) (values .commands) (values .sending) (values .mismatch) ⌝ }
 {
     let sending = values.sending;
-    let may = message_rule(
+    let may = message_ok(
         sending.request,
         values.settings.role,
         values.state,
@@ -119,10 +119,10 @@ fn sending_rule(values: NodeValues) -> bool
         sending.dnf,
         values.mismatch,
     );
-    may & (values.mismatch | (!is_sending(sending.request) | some_marked(values.blocked)))
+    may & (values.mismatch | (!is_sending(sending.request) | some(values.blocked)))
 }
 
-fn burst_rule(sending: Sending, due: Due) -> bool
+fn burst_ok(sending: Sending, due: Due) -> bool
     ensures { λ r. ⌜ r ≡ burst-ok sending due ⌝ }
 {
     if is_sending(sending.request) {
@@ -132,7 +132,7 @@ fn burst_rule(sending: Sending, due: Due) -> bool
     }
 }
 
-fn timers_rule(role: Role, revertive: bool, state: State, timers: Timers) -> bool
+fn timers_ok(role: Role, revertive: bool, state: State, timers: Timers) -> bool
     ensures { λ r. ⌜ r ≡ timers-ok role revertive state timers ⌝ }
 {
     let bounded = (timers.guard <= 50) & ((timers.wtr <= 30_000) & (timers.wtb <= 550));
@@ -144,31 +144,31 @@ fn timers_rule(role: Role, revertive: bool, state: State, timers: Timers) -> boo
     bounded & waits
 }
 
-fn idle_rule(role: Role, rpl: Port, state: State, blocked: Ports, mismatch: bool) -> bool
+fn idle_ok(role: Role, rpl: Port, state: State, blocked: Ports, mismatch: bool) -> bool
     ensures { λ r. ⌜ r ≡ idle-ok role rpl state blocked mismatch ⌝ }
 {
     match state {
-        State::Idle => mismatch | agree(blocked, idle_ports(role, rpl)),
+        State::Idle => mismatch | same(blocked, idle_ports(role, rpl)),
         _ => true,
     }
 }
 
-fn keeps_rules(values: NodeValues) -> bool
+fn makes_node(values: NodeValues) -> bool
     ensures { λ r. ⌜ r ≡ makes-node values ⌝ }
 {
     let settings = values.settings;
-    settings_rule(settings)
-        & (failed_rule(values.state, values.blocked, values.failed)
-            & (forced_rule(values.state, values.blocked, values.commands)
-                & (sending_rule(values)
-                    & (burst_rule(values.sending, values.due)
-                        & (timers_rule(
+    settings_ok(settings)
+        & (failed_ok(values.state, values.blocked, values.failed)
+            & (forced_ok(values.state, values.blocked, values.commands)
+                & (sending_ok(values)
+                    & (burst_ok(values.sending, values.due)
+                        & (timers_ok(
                             settings.role,
                             settings.revertive,
                             values.state,
                             values.timers,
                         )
-                            & idle_rule(
+                            & idle_ok(
                                 settings.role,
                                 settings.rpl,
                                 values.state,
@@ -182,7 +182,7 @@ impl Node {
     pub fn from_values(values: NodeValues) -> Option<Node>
         ensures { λ r. ⌜ Cases r (makes-node values ≡ false) (λ n. (n .values ≡ values) × (makes-node values ≡ true)) ⌝ }
     {
-        if keeps_rules(values) {
+        if makes_node(values) {
             Some(Node { values })
         } else {
             None

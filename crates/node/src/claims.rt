@@ -1,7 +1,7 @@
 // The request table (Table 10-1): which request is the highest.
 ghost use mathlib.Core.Path.{_≡_};
-ghost use Rattle.node.specs.Claims.{claim-of, claim-rank, fail-stands, is-first, reaches as reaches-row, slot-if, slot-rank};
-use crate::ports::some_marked;
+ghost use Rattle.node.specs.Claims.{claim-of, claim-rank, fail-stands, is-first, reaches, slot-if, slot-rank};
+use crate::ports::some;
 use crate::types::NodeValues;
 use crate::types::State;
 use frame::Ranked;
@@ -33,16 +33,16 @@ pub struct Slot {
     pub claim: Option<Claim>,
 }
 
-fn rank_of(slot: Slot) -> u8
+fn slot_rank(slot: Slot) -> u8
     ensures { λ r. ⌜ r ≡ slot-rank slot ⌝ }
 {
     match slot.claim {
         None => 0,
-        Some(claim) => rank_of_claim(claim),
+        Some(claim) => claim_rank(claim),
     }
 }
 
-fn rank_of_claim(claim: Claim) -> u8
+fn claim_rank(claim: Claim) -> u8
     ensures { λ r. ⌜ r ≡ claim-rank claim ⌝ }
 {
     match claim {
@@ -67,7 +67,7 @@ pub impl Ranked for Slot as SlotRanked {
     ghost rank = { slot-rank };
 
     fn outranks(&self, other: &Slot) -> bool {
-        rank_of(*other) < rank_of(*self)
+        slot_rank(*other) < slot_rank(*self)
     }
 }
 
@@ -94,20 +94,20 @@ fn slot_if(stands: bool, claim: Claim) -> Slot
 
 // Whether a new request is the highest, among equals the first: then it reaches its row.
 pub(crate) fn reaches(values: NodeValues, claim: Claim) -> bool
-    ensures { λ r. ⌜ r ≡ reaches-row values claim ⌝ }
+    ensures { λ r. ⌜ r ≡ reaches values claim ⌝ }
 {
     let slots = [
         slot_if(true, claim),
-        slot_if(some_marked(values.commands.forced), Claim::Forced),
+        slot_if(some(values.commands.forced), Claim::Forced),
         slot_if(fail_stands(values), Claim::LocalFail),
         slot_if(values.commands.manual.is_some(), Claim::Manual),
         slot_if(values.timers.wtr > 0, Claim::WtrRunning),
         slot_if(values.timers.wtb > 0, Claim::WtbRunning),
     ];
-    is_top(highest(&slots))
+    is_first(highest(&slots))
 }
 
-fn is_top(place: Option<usize>) -> bool
+fn is_first(place: Option<usize>) -> bool
     ensures { λ r. ⌜ r ≡ is-first place ⌝ }
 {
     matches!(place, Some(0))
@@ -119,6 +119,6 @@ fn fail_stands(values: NodeValues) -> bool
 {
     match values.state {
         State::ForcedSwitch => false,
-        _ => some_marked(values.failed),
+        _ => some(values.failed),
     }
 }

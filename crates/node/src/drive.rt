@@ -26,7 +26,7 @@ fn port_of(number: u8) -> Result<Port, NodeFault>
     }
 }
 
-fn compare(own: Ports, fabric: Ports) -> Result<(), NodeFault>
+fn in_step(own: Ports, fabric: Ports) -> Result<(), NodeFault>
     ensures { λ r. ⌜ r ≡ in-step own fabric ⌝ }
 {
     if own.p0 != fabric.p0 {
@@ -42,7 +42,7 @@ fn compare(own: Ports, fabric: Ports) -> Result<(), NodeFault>
 pub(crate) fn check_in_step<F: Fabric>(values: &NodeValues, fabric: &F) -> Result<(), NodeFault>
     ensures { λ r. ⌜ r ≡ in-step (now (values .entry) .blocked) (marks (now (fabric .entry)) .blocked) ⌝ }
 {
-    compare(values.blocked, read_blocked(fabric))
+    in_step(values.blocked, read_blocked(fabric))
 }
 
 // 8, then 9.

@@ -1,6 +1,6 @@
 // The laws of a node and worked examples: each function's contract is the theorem, proved of every node.
 ghost use mathlib.Core.Path.{_≡_};
-ghost use Rattle.node.specs.Laws.{Event-changes-nothing, Failed-marks, Forced-marks, Keeps-a-block, Mark-law, Own-changes-nothing, Rules-kept, Rules-promise};
+ghost use Rattle.node.specs.Laws.{Event-changes-no-value, Failed-marks, Forced-marks, Keeps-a-block, Local-reaches, Mark-law, Own-moves-no-port, Rules-kept, Rules-promise};
 ghost use Rattle.node.specs.Worked.{Clears-to-failure, Forced-at-rpl, Hears-no-request, New-owner, Repaired-one-of-two, Waits-to-restore};
 
 // Every call that is taken keeps every rule of the record.
@@ -13,10 +13,10 @@ pub fn calls_keep_a_block()
     ensures { λ _. ⌜ Keeps-a-block ⌝ }
 {}
 
-// A message with the own ID changes no port, an event nothing at all.
-pub fn own_and_events_change_no_port()
-    ensures own { λ _. ⌜ Own-changes-nothing ⌝ }
-    ensures event { λ _. ⌜ Event-changes-nothing ⌝ }
+// A message with the own ID moves no port; an event changes no value of the node, it only flushes.
+pub fn own_and_events_move_no_port()
+    ensures own { λ _. ⌜ Own-moves-no-port ⌝ }
+    ensures event { λ _. ⌜ Event-changes-no-value ⌝ }
 {}
 
 // Failed and forced marks follow the calls that are taken.
@@ -25,14 +25,20 @@ pub fn marks_follow_the_calls()
     ensures forced { λ _. ⌜ Forced-marks ⌝ }
 {}
 
-// Without the mismatch mark a sender blocks the port that it names, and idle means the RPL port alone, or none.
+// Forced ports are blocked, and failed ones outside forced switch; without the mismatch mark a sender blocks the port that
+// it names, and idle means the RPL port alone, or none.
 pub fn rules_promise_the_ports()
     ensures { λ _. ⌜ Rules-promise ⌝ }
 {}
 
-// The mismatch mark is set only by NR,RB of another that passes guard at an owner.
+// The mismatch mark is set by NR,RB of another that passes guard at an owner, and by nothing else; it stays until restart.
 pub fn mark_means_another_owner()
     ensures { λ _. ⌜ Mark-law ⌝ }
+{}
+
+// Where a local request has a row, no higher one stands.
+pub fn local_requests_reach_their_rows()
+    ensures { λ _. ⌜ Local-reaches ⌝ }
 {}
 
 // Six worked examples.

@@ -9,13 +9,13 @@ pub(crate) const NO_PORT: Ports = Ports {
     p1: false,
 };
 
-pub(crate) fn only_port(port: Port) -> Ports
+pub(crate) fn only(port: Port) -> Ports
     ensures { λ r. ⌜ r ≡ only port ⌝ }
 {
-    mark(NO_PORT, port, true)
+    with_mark(NO_PORT, port, true)
 }
 
-pub(crate) fn is_marked(marks: Ports, port: Port) -> bool
+pub(crate) fn at(marks: Ports, port: Port) -> bool
     ensures { λ r. ⌜ r ≡ at marks port ⌝ }
 {
     match port {
@@ -24,7 +24,7 @@ pub(crate) fn is_marked(marks: Ports, port: Port) -> bool
     }
 }
 
-pub(crate) fn mark(marks: Ports, port: Port, value: bool) -> Ports
+pub(crate) fn with_mark(marks: Ports, port: Port, value: bool) -> Ports
     ensures { λ r. ⌜ r ≡ with-mark marks port value ⌝ }
 {
     match port {
@@ -33,19 +33,19 @@ pub(crate) fn mark(marks: Ports, port: Port, value: bool) -> Ports
     }
 }
 
-pub(crate) fn some_marked(marks: Ports) -> bool
+pub(crate) fn some(marks: Ports) -> bool
     ensures { λ r. ⌜ r ≡ some marks ⌝ }
 {
     marks.p0 | marks.p1
 }
 
-pub(crate) fn lies_within(marks: Ports, others: Ports) -> bool
+pub(crate) fn within(marks: Ports, others: Ports) -> bool
     ensures { λ r. ⌜ r ≡ within marks others ⌝ }
 {
     (!marks.p0 | others.p0) & (!marks.p1 | others.p1)
 }
 
-pub(crate) fn both_of(marks: Ports, others: Ports) -> Ports
+pub(crate) fn meet(marks: Ports, others: Ports) -> Ports
     ensures { λ r. ⌜ r ≡ meet marks others ⌝ }
 {
     Ports {
@@ -54,13 +54,13 @@ pub(crate) fn both_of(marks: Ports, others: Ports) -> Ports
     }
 }
 
-pub(crate) fn agree(marks: Ports, others: Ports) -> bool
+pub(crate) fn same(marks: Ports, others: Ports) -> bool
     ensures { λ r. ⌜ r ≡ same marks others ⌝ }
 {
     (marks.p0 == others.p0) & (marks.p1 == others.p1)
 }
 
-pub(crate) fn names_port_one(blocked: Ports) -> bool
+pub(crate) fn bpr_of(blocked: Ports) -> bool
     ensures { λ r. ⌜ r ≡ bpr-of blocked ⌝ }
 {
     blocked.p1 & !blocked.p0

@@ -3,27 +3,27 @@ ghost use mathlib.Core.Path.{_≡_};
 ghost use Rattle.node.specs.Names.{is-other};
 ghost use Rattle.node.specs.Receiving.{after-message, after-signal, flush-logic, is-foreign-rb, is-no-request, is-own, is-rpl-blocked, noted, pair-after, pair-flushes, reaches-row, row-of, same-pair};
 ghost use Rattle.node.specs.Rows.{heard-fail, heard-forced, heard-manual, heard-no-request, heard-row, heard-rpl-blocked, higher, quiet-unless-owner, to-idle};
-ghost use Rattle.node.specs.Rules.{rest-ports};
+ghost use Rattle.node.specs.Rules.{idle-ports};
 use crate::claims::claim_of;
 use crate::claims::reaches;
 use crate::ports::NO_PORT;
-use crate::ports::both_of;
-use crate::ports::only_port;
-use crate::ports::some_marked;
+use crate::ports::meet;
+use crate::ports::only;
+use crate::ports::some;
 use crate::rows::NO_COMMANDS;
 use crate::rows::SILENT;
-use crate::rows::go_pending;
+use crate::rows::await_wtb;
+use crate::rows::await_wtr;
 use crate::rows::is_owner;
-use crate::rows::move_to;
-use crate::rows::present_failure;
-use crate::rows::release_to_pending;
-use crate::rows::stay;
-use crate::rows::stop;
-use crate::rows::wait_to_block;
-use crate::rows::wait_to_restore;
+use crate::rows::moved;
+use crate::rows::pend;
+use crate::rows::present;
+use crate::rows::release;
+use crate::rows::still;
+use crate::rows::stopped;
 use crate::rows::yield_to;
 use crate::settling::ZERO_PAIR;
-use crate::settling::settle_after;
+use crate::settling::settle;
 use crate::types::Heard;
 use crate::types::NodeValues;
 use crate::types::Outcome;
@@ -44,15 +44,15 @@ fn is_other(role: Role) -> bool
 }
 
 // R-APS(FS) opens failed ports too.
-fn hear_forced(values: NodeValues) -> Outcome
+fn heard_forced(values: NodeValues) -> Outcome
     ensures { λ r. ⌜ r ≡ heard-forced values ⌝ }
 {
     if let State::ForcedSwitch = values.state {
-        return stay(values);
+        return still(values);
     }
     let blocked = NO_PORT;
-    let timers = stop(values.timers);
-    stay(move_to(
+    let timers = stopped(values.timers);
+    still(moved(
         values,
         State::ForcedSwitch,
         blocked,
@@ -62,22 +62,22 @@ fn hear_forced(values: NodeValues) -> Outcome
     ))
 }
 
-fn hear_fail(values: NodeValues) -> Outcome
+fn heard_fail(values: NodeValues) -> Outcome
     ensures { λ r. ⌜ r ≡ heard-fail values ⌝ }
 {
     match values.state {
         State::Idle | State::ManualSwitch | State::Pending => yield_to(values, State::Protection),
-        State::Protection | State::ForcedSwitch => stay(values),
+        State::Protection | State::ForcedSwitch => still(values),
     }
 }
 
-fn hear_manual(values: NodeValues) -> Outcome
+fn heard_manual(values: NodeValues) -> Outcome
     ensures { λ r. ⌜ r ≡ heard-manual values ⌝ }
 {
     match values.state {
         State::Idle | State::Pending => yield_to(values, State::ManualSwitch),
-        State::ManualSwitch if some_marked(values.blocked) => stay(release_to_pending(values)),
-        State::ManualSwitch | State::Protection | State::ForcedSwitch => stay(values),
+        State::ManualSwitch if some(values.blocked) => still(release(values)),
+        State::ManualSwitch | State::Protection | State::ForcedSwitch => still(values),
     }
 }
 
@@ -93,38 +93,38 @@ fn quiet_unless_owner(values: NodeValues) -> Sending
 
 // The ports that an idle station blocks.
 pub(crate) fn idle_ports(role: Role, rpl: Port) -> Ports
-    ensures { λ r. ⌜ r ≡ rest-ports role rpl ⌝ }
+    ensures { λ r. ⌜ r ≡ idle-ports role rpl ⌝ }
 {
     match role {
         Role::Other => NO_PORT,
-        _ => only_port(rpl),
+        _ => only(rpl),
     }
 }
 
 // NR,RB in pending: the owner's ports and message stay.
-fn go_idle(role: Role, values: NodeValues) -> NodeValues
+fn to_idle(role: Role, values: NodeValues) -> NodeValues
     ensures { λ r. ⌜ r ≡ to-idle role values ⌝ }
 {
-    let timers = stop(values.timers);
+    let timers = stopped(values.timers);
     let (blocked, sending) = match role {
         Role::Other => (NO_PORT, SILENT),
         Role::Owner => (values.blocked, values.sending),
-        Role::Neighbour => (only_port(values.settings.rpl), SILENT),
+        Role::Neighbour => (only(values.settings.rpl), SILENT),
     };
-    move_to(values, State::Idle, blocked, NO_COMMANDS, sending, timers)
+    moved(values, State::Idle, blocked, NO_COMMANDS, sending, timers)
 }
 
-fn hear_rpl_blocked(values: NodeValues) -> Outcome
+fn heard_rpl_blocked(values: NodeValues) -> Outcome
     ensures { λ r. ⌜ r ≡ heard-rpl-blocked values ⌝ }
 {
     match values.state {
         State::Idle => {
-            let blocked = both_of(
+            let blocked = meet(
                 values.blocked,
                 idle_ports(values.settings.role, values.settings.rpl),
             );
             let sending = quiet_unless_owner(values);
-            stay(move_to(
+            still(moved(
                 values,
                 State::Idle,
                 blocked,
@@ -133,42 +133,42 @@ fn hear_rpl_blocked(values: NodeValues) -> Outcome
                 values.timers,
             ))
         }
-        State::Protection | State::ManualSwitch => stay(go_pending(values, values.timers)),
-        State::ForcedSwitch => present_failure(go_pending(values, values.timers)),
-        State::Pending => stay(go_idle(values.settings.role, values)),
+        State::Protection | State::ManualSwitch => still(pend(values, values.timers)),
+        State::ForcedSwitch => present(pend(values, values.timers)),
+        State::Pending => still(to_idle(values.settings.role, values)),
     }
 }
 
-fn is_higher(values: NodeValues, node: NodeId) -> bool
+fn higher(values: NodeValues, node: NodeId) -> bool
     ensures { λ r. ⌜ r ≡ higher values node ⌝ }
 {
     values.settings.id.number() < node.number()
 }
 
-fn hear_no_request(values: NodeValues, node: NodeId) -> Outcome
+fn heard_no_request(values: NodeValues, node: NodeId) -> Outcome
     ensures { λ r. ⌜ r ≡ heard-no-request values node ⌝ }
 {
-    let higher = is_higher(values, node);
+    let higher = higher(values, node);
     let guard = values.timers.guard;
     match values.state {
         State::Idle if is_other(values.settings.role) & higher => yield_to(values, State::Idle),
-        State::Protection => stay(go_pending(values, wait_to_restore(values, guard))),
-        State::ManualSwitch => stay(go_pending(values, wait_to_block(values, guard))),
-        State::ForcedSwitch => present_failure(go_pending(values, wait_to_block(values, guard))),
+        State::Protection => still(pend(values, await_wtr(values, guard))),
+        State::ManualSwitch => still(pend(values, await_wtb(values, guard))),
+        State::ForcedSwitch => present(pend(values, await_wtb(values, guard))),
         State::Pending if higher => yield_to(values, State::Pending),
-        State::Idle | State::Pending => stay(values),
+        State::Idle | State::Pending => still(values),
     }
 }
 
-fn row_of_request(request: Request, values: NodeValues, node: NodeId) -> Outcome
+fn heard_row(request: Request, values: NodeValues, node: NodeId) -> Outcome
     ensures { λ r. ⌜ r ≡ heard-row request values node ⌝ }
 {
     match request {
-        Request::ForcedSwitch => hear_forced(values),
-        Request::SignalFail => hear_fail(values),
-        Request::ManualSwitch => hear_manual(values),
-        Request::RplBlocked => hear_rpl_blocked(values),
-        Request::NoRequest => hear_no_request(values, node),
+        Request::ForcedSwitch => heard_forced(values),
+        Request::SignalFail => heard_fail(values),
+        Request::ManualSwitch => heard_manual(values),
+        Request::RplBlocked => heard_rpl_blocked(values),
+        Request::NoRequest => heard_no_request(values, node),
     }
 }
 
@@ -197,7 +197,7 @@ fn is_foreign_rb(values: NodeValues, heard: Heard) -> bool
     is_owner(values.settings.role) & (is_rpl_blocked(heard.request) & !is_own(values, heard.node))
 }
 
-fn note(values: NodeValues, heard: Heard) -> NodeValues
+fn noted(values: NodeValues, heard: Heard) -> NodeValues
     ensures { λ r. ⌜ r ≡ noted values heard ⌝ }
 {
     NodeValues {
@@ -215,44 +215,49 @@ fn reaches_row(values: NodeValues, heard: Heard) -> bool
 fn row_of(values: NodeValues, heard: Heard) -> Outcome
     ensures { λ r. ⌜ r ≡ row-of values heard ⌝ }
 {
-    let seen = note(values, heard);
+    let seen = noted(values, heard);
     if reaches_row(values, heard) {
-        row_of_request(heard.request, seen, heard.node)
+        heard_row(heard.request, seen, heard.node)
     } else {
-        stay(seen)
+        still(seen)
     }
 }
 
 // Pairs of a Node ID and a BPR compare by the ID's number.
-fn is_same_pair(a: (NodeId, bool), b: (NodeId, bool)) -> bool
+fn same_pair(a: (NodeId, bool), b: (NodeId, bool)) -> bool
     ensures { λ r. ⌜ r ≡ same-pair a b ⌝ }
 {
     (a.0.number() == b.0.number()) & (a.1 == b.1)
 }
 
-fn next_pair(stored: (NodeId, bool), heard: Heard) -> (NodeId, bool)
+fn pair_after(stored: (NodeId, bool), heard: Heard) -> (NodeId, bool)
     ensures { λ r. ⌜ r ≡ pair-after stored heard ⌝ }
 {
     let pair = (heard.node, heard.bpr);
     if is_no_request(heard.request) {
         ZERO_PAIR
-    } else if is_same_pair(pair, stored) {
+    } else if same_pair(pair, stored) {
         stored
     } else {
         pair
     }
 }
 
-fn flushes(values: NodeValues, mine: (NodeId, bool), other: (NodeId, bool), heard: Heard) -> bool
+fn pair_flushes(
+    values: NodeValues,
+    mine: (NodeId, bool),
+    other: (NodeId, bool),
+    heard: Heard,
+) -> bool
     ensures { λ r. ⌜ r ≡ pair-flushes values mine other heard ⌝ }
 {
     let pair = (heard.node, heard.bpr);
     !is_no_request(heard.request)
-        & (!is_same_pair(pair, mine)
-            & (!is_same_pair(pair, other) & (!heard.dnf & !is_own(values, heard.node))))
+        & (!same_pair(pair, mine)
+            & (!same_pair(pair, other) & (!heard.dnf & !is_own(values, heard.node))))
 }
 
-fn apply_flush_logic(o: Outcome, port: Port, heard: Heard) -> Outcome
+fn flush_logic(o: Outcome, port: Port, heard: Heard) -> Outcome
     ensures { λ r. ⌜ r ≡ flush-logic o port heard ⌝ }
 {
     let pair0 = o.values.pair0;
@@ -260,33 +265,33 @@ fn apply_flush_logic(o: Outcome, port: Port, heard: Heard) -> Outcome
     match port {
         Port::Zero => Outcome {
             values: NodeValues {
-                pair0: next_pair(pair0, heard),
+                pair0: pair_after(pair0, heard),
                 ..o.values
             },
-            flush: o.flush | flushes(o.values, pair0, pair1, heard),
+            flush: o.flush | pair_flushes(o.values, pair0, pair1, heard),
         },
         Port::One => Outcome {
             values: NodeValues {
-                pair1: next_pair(pair1, heard),
+                pair1: pair_after(pair1, heard),
                 ..o.values
             },
-            flush: o.flush | flushes(o.values, pair1, pair0, heard),
+            flush: o.flush | pair_flushes(o.values, pair1, pair0, heard),
         },
     }
 }
 
-fn hear_signal(values: NodeValues, port: Port, heard: Heard) -> Outcome
+fn after_signal(values: NodeValues, port: Port, heard: Heard) -> Outcome
     ensures { λ r. ⌜ r ≡ after-signal values port heard ⌝ }
 {
     if values.timers.guard > 0 {
-        return stay(values);
+        return still(values);
     }
-    let o = settle_after(values, row_of(values, heard));
-    apply_flush_logic(o, port, heard)
+    let o = settle(values, row_of(values, heard));
+    flush_logic(o, port, heard)
 }
 
 // What a message does to the values.
-pub(crate) fn hear(values: NodeValues, port: Port, message: Message) -> Outcome
+pub(crate) fn after_message(values: NodeValues, port: Port, message: Message) -> Outcome
     ensures { λ r. ⌜ r ≡ after-message values port message ⌝ }
 {
     let node = message.node;
@@ -302,7 +307,7 @@ pub(crate) fn hear(values: NodeValues, port: Port, message: Message) -> Outcome
                 dnf,
                 bpr,
             };
-            hear_signal(values, port, heard)
+            after_signal(values, port, heard)
         }
     }
 }

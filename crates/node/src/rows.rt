@@ -2,14 +2,14 @@
 ghost use mathlib.Core.Path.{_≡_};
 ghost use Prim.Native.Nat.{ℕ};
 ghost use Rattle.node.specs.Names.{is-owner};
-ghost use Rattle.node.specs.Rows.{await-wtb, await-wtr, clear-fail, clear-row, fail-row, force-more, force-new, force-row, gives, manual-row, moved, newly-failed, no-commands, pend, present, release, repair-row, repaired, rest, reverts, seize, seize-failed, silent, still, stopped, yield};
+ghost use Rattle.node.specs.Rows.{await-wtb, await-wtr, clear-fail, clear-row, fail-row, force-more, force-new, force-row, gives, manual-row, moved, newly-failed, no-commands, pend, present, release, repair-row, repaired, rest, reverts, seize, seize-failed, silent, still, stopped, yield-to};
 use crate::ports::NO_PORT;
-use crate::ports::both_of;
-use crate::ports::is_marked;
-use crate::ports::lies_within;
-use crate::ports::mark;
-use crate::ports::only_port;
-use crate::ports::some_marked;
+use crate::ports::at;
+use crate::ports::meet;
+use crate::ports::only;
+use crate::ports::some;
+use crate::ports::with_mark;
+use crate::ports::within;
 use crate::types::Commands;
 use crate::types::NodeValues;
 use crate::types::Outcome;
@@ -49,7 +49,7 @@ pub(crate) fn is_owner(role: Role) -> bool
 }
 
 // The values with what a row can change.
-pub(crate) fn move_to(
+pub(crate) fn moved(
     values: NodeValues,
     state: State,
     blocked: Ports,
@@ -69,7 +69,7 @@ pub(crate) fn move_to(
     }
 }
 
-pub(crate) fn stay(values: NodeValues) -> Outcome
+pub(crate) fn still(values: NodeValues) -> Outcome
     ensures { λ r. ⌜ r ≡ still values ⌝ }
 {
     Outcome {
@@ -79,7 +79,7 @@ pub(crate) fn stay(values: NodeValues) -> Outcome
 }
 
 // Leaving pending stops WTR and WTB.
-pub(crate) fn stop(timers: Timers) -> Timers
+pub(crate) fn stopped(timers: Timers) -> Timers
     ensures { λ r. ⌜ r ≡ stopped timers ⌝ }
 {
     Timers {
@@ -89,44 +89,36 @@ pub(crate) fn stop(timers: Timers) -> Timers
     }
 }
 
-pub(crate) fn is_revertive_owner(values: NodeValues) -> bool
+pub(crate) fn reverts(values: NodeValues) -> bool
     ensures { λ r. ⌜ r ≡ reverts values ⌝ }
 {
     is_owner(values.settings.role) & values.settings.revertive
 }
 
 // Await WTR: a revertive owner starts it.
-pub(crate) fn wait_to_restore(values: NodeValues, guard: u16) -> Timers
+pub(crate) fn await_wtr(values: NodeValues, guard: u16) -> Timers
     ensures { λ r. ⌜ r ≡ await-wtr values guard ⌝ }
 {
     Timers {
         guard,
-        wtr: if is_revertive_owner(values) {
-            WTR_START
-        } else {
-            0
-        },
+        wtr: if reverts(values) { WTR_START } else { 0 },
         wtb: 0,
     }
 }
 
 // Await WTB likewise.
-pub(crate) fn wait_to_block(values: NodeValues, guard: u16) -> Timers
+pub(crate) fn await_wtb(values: NodeValues, guard: u16) -> Timers
     ensures { λ r. ⌜ r ≡ await-wtb values guard ⌝ }
 {
     Timers {
         guard,
         wtr: 0,
-        wtb: if is_revertive_owner(values) {
-            WTB_START
-        } else {
-            0
-        },
+        wtb: if reverts(values) { WTB_START } else { 0 },
     }
 }
 
 // Seize: DNF where the port was blocked already, else flush; the other port opens.
-fn seize_port(
+fn seize(
     values: NodeValues,
     port: Port,
     request: Request,
@@ -135,18 +127,18 @@ fn seize_port(
 ) -> Outcome
     ensures { λ r. ⌜ r ≡ seize values port request state commands ⌝ }
 {
-    let was = is_marked(values.blocked, port);
+    let was = at(values.blocked, port);
     let sending = Sending {
         request: Some(request),
         dnf: was,
     };
-    let after = move_to(
+    let after = moved(
         values,
         state,
-        only_port(port),
+        only(port),
         commands,
         sending,
-        stop(values.timers),
+        stopped(values.timers),
     );
     Outcome {
         values: after,
@@ -158,18 +150,18 @@ fn seize_port(
 fn seize_failed(values: NodeValues) -> Outcome
     ensures { λ r. ⌜ r ≡ seize-failed values ⌝ }
 {
-    let was = lies_within(values.failed, values.blocked);
+    let was = within(values.failed, values.blocked);
     let sending = Sending {
         request: Some(Request::SignalFail),
         dnf: was,
     };
-    let after = move_to(
+    let after = moved(
         values,
         State::Protection,
         values.failed,
         NO_COMMANDS,
         sending,
-        stop(values.timers),
+        stopped(values.timers),
     );
     Outcome {
         values: after,
@@ -178,10 +170,10 @@ fn seize_failed(values: NodeValues) -> Outcome
 }
 
 // Rest: the RPL port alone blocked, NR,RB sent, idle.
-pub(crate) fn rest_at_rpl(values: NodeValues) -> Outcome
+pub(crate) fn rest(values: NodeValues) -> Outcome
     ensures { λ r. ⌜ r ≡ rest values ⌝ }
 {
-    seize_port(
+    seize(
         values,
         values.settings.rpl,
         Request::RplBlocked,
@@ -191,12 +183,12 @@ pub(crate) fn rest_at_rpl(values: NodeValues) -> Outcome
 }
 
 // Release: commands end; with a port blocked guard starts and NR is sent.
-pub(crate) fn release_to_pending(values: NodeValues) -> NodeValues
+pub(crate) fn release(values: NodeValues) -> NodeValues
     ensures { λ r. ⌜ r ≡ release values ⌝ }
 {
-    if some_marked(values.blocked) {
-        let timers = wait_to_block(values, GUARD_START);
-        move_to(
+    if some(values.blocked) {
+        let timers = await_wtb(values, GUARD_START);
+        moved(
             values,
             State::Pending,
             values.blocked,
@@ -205,29 +197,29 @@ pub(crate) fn release_to_pending(values: NodeValues) -> NodeValues
             timers,
         )
     } else {
-        go_pending(values, values.timers)
+        pend(values, values.timers)
     }
 }
 
 // Yield: only failed ports stay blocked, nothing is sent.
 pub(crate) fn yield_to(values: NodeValues, state: State) -> Outcome
-    ensures { λ r. ⌜ r ≡ yield values state ⌝ }
+    ensures { λ r. ⌜ r ≡ yield-to values state ⌝ }
 {
-    let blocked = both_of(values.blocked, values.failed);
-    stay(move_to(
+    let blocked = meet(values.blocked, values.failed);
+    still(moved(
         values,
         state,
         blocked,
         NO_COMMANDS,
         SILENT,
-        stop(values.timers),
+        stopped(values.timers),
     ))
 }
 
-pub(crate) fn go_pending(values: NodeValues, timers: Timers) -> NodeValues
+pub(crate) fn pend(values: NodeValues, timers: Timers) -> NodeValues
     ensures { λ r. ⌜ r ≡ pend values timers ⌝ }
 {
-    move_to(
+    moved(
         values,
         State::Pending,
         values.blocked,
@@ -238,25 +230,25 @@ pub(crate) fn go_pending(values: NodeValues, timers: Timers) -> NodeValues
 }
 
 // Local SF where a port is failed.
-pub(crate) fn present_failure(values: NodeValues) -> Outcome
+pub(crate) fn present(values: NodeValues) -> Outcome
     ensures { λ r. ⌜ r ≡ present values ⌝ }
 {
-    if some_marked(values.failed) {
+    if some(values.failed) {
         seize_failed(values)
     } else {
-        stay(values)
+        still(values)
     }
 }
 
-pub(crate) fn row_clear(values: NodeValues) -> Outcome
+pub(crate) fn clear_row(values: NodeValues) -> Outcome
     ensures { λ r. ⌜ r ≡ clear-row values ⌝ }
 {
     match values.state {
-        State::Idle | State::Protection => stay(values),
-        State::ManualSwitch => stay(release_to_pending(values)),
-        State::ForcedSwitch => present_failure(release_to_pending(values)),
-        State::Pending if is_owner(values.settings.role) => rest_at_rpl(values),
-        State::Pending => stay(values),
+        State::Idle | State::Protection => still(values),
+        State::ManualSwitch => still(release(values)),
+        State::ForcedSwitch => present(release(values)),
+        State::Pending if is_owner(values.settings.role) => rest(values),
+        State::Pending => still(values),
     }
 }
 
@@ -264,10 +256,10 @@ fn force_new(values: NodeValues, port: Port) -> Outcome
     ensures { λ r. ⌜ r ≡ force-new values port ⌝ }
 {
     let commands = Commands {
-        forced: only_port(port),
+        forced: only(port),
         manual: None,
     };
-    seize_port(
+    seize(
         values,
         port,
         Request::ForcedSwitch,
@@ -281,21 +273,21 @@ fn force_more(values: NodeValues, port: Port) -> Outcome
     ensures { λ r. ⌜ r ≡ force-more values port ⌝ }
 {
     let commands = Commands {
-        forced: mark(values.commands.forced, port, true),
+        forced: with_mark(values.commands.forced, port, true),
         manual: None,
     };
     let sending = Sending {
         request: Some(Request::ForcedSwitch),
         dnf: false,
     };
-    let blocked = mark(values.blocked, port, true);
-    let after = move_to(
+    let blocked = with_mark(values.blocked, port, true);
+    let after = moved(
         values,
         State::ForcedSwitch,
         blocked,
         commands,
         sending,
-        stop(values.timers),
+        stopped(values.timers),
     );
     Outcome {
         values: after,
@@ -303,7 +295,7 @@ fn force_more(values: NodeValues, port: Port) -> Outcome
     }
 }
 
-pub(crate) fn row_force(values: NodeValues, port: Port) -> Outcome
+pub(crate) fn force_row(values: NodeValues, port: Port) -> Outcome
     ensures { λ r. ⌜ r ≡ force-row values port ⌝ }
 {
     match values.state {
@@ -312,14 +304,14 @@ pub(crate) fn row_force(values: NodeValues, port: Port) -> Outcome
     }
 }
 
-pub(crate) fn row_manual(values: NodeValues, port: Port) -> Outcome
+pub(crate) fn manual_row(values: NodeValues, port: Port) -> Outcome
     ensures { λ r. ⌜ r ≡ manual-row values port ⌝ }
 {
     let commands = Commands {
         forced: NO_PORT,
         manual: Some(port),
     };
-    seize_port(
+    seize(
         values,
         port,
         Request::ManualSwitch,
@@ -333,19 +325,19 @@ fn newly_failed(values: NodeValues) -> Outcome
     ensures { λ r. ⌜ r ≡ newly-failed values ⌝ }
 {
     match values.state {
-        State::ForcedSwitch => stay(values),
+        State::ForcedSwitch => still(values),
         _ => seize_failed(values),
     }
 }
 
-pub(crate) fn row_fail(values: NodeValues, port: Port) -> Outcome
+pub(crate) fn fail_row(values: NodeValues, port: Port) -> Outcome
     ensures { λ r. ⌜ r ≡ fail-row values port ⌝ }
 {
-    if is_marked(values.failed, port) {
-        return stay(values);
+    if at(values.failed, port) {
+        return still(values);
     }
     newly_failed(NodeValues {
-        failed: mark(values.failed, port, true),
+        failed: with_mark(values.failed, port, true),
         ..values
     })
 }
@@ -354,8 +346,8 @@ pub(crate) fn row_fail(values: NodeValues, port: Port) -> Outcome
 fn clear_fail(values: NodeValues) -> Outcome
     ensures { λ r. ⌜ r ≡ clear-fail values ⌝ }
 {
-    let timers = wait_to_restore(values, GUARD_START);
-    stay(move_to(
+    let timers = await_wtr(values, GUARD_START);
+    still(moved(
         values,
         State::Pending,
         values.blocked,
@@ -365,24 +357,24 @@ fn clear_fail(values: NodeValues) -> Outcome
     ))
 }
 
-fn newly_repaired(values: NodeValues) -> Outcome
+fn repaired(values: NodeValues) -> Outcome
     ensures { λ r. ⌜ r ≡ repaired values ⌝ }
 {
     match values.state {
-        State::Protection if some_marked(values.failed) => seize_failed(values),
+        State::Protection if some(values.failed) => seize_failed(values),
         State::Protection => clear_fail(values),
-        _ => stay(values),
+        _ => still(values),
     }
 }
 
-pub(crate) fn row_repair(values: NodeValues, port: Port) -> Outcome
+pub(crate) fn repair_row(values: NodeValues, port: Port) -> Outcome
     ensures { λ r. ⌜ r ≡ repair-row values port ⌝ }
 {
-    if !is_marked(values.failed, port) {
-        return stay(values);
+    if !at(values.failed, port) {
+        return still(values);
     }
-    newly_repaired(NodeValues {
-        failed: mark(values.failed, port, false),
+    repaired(NodeValues {
+        failed: with_mark(values.failed, port, false),
         ..values
     })
 }

@@ -7,9 +7,9 @@ ghost use Rattle.node.specs.Faults.{told-at};
 use crate::faults::NodeFault;
 use crate::faults::NodeFaultFromFrame;
 use crate::node::Node;
-use crate::ports::names_port_one;
-use crate::settling::after_frame;
-use crate::settling::has_frame_due;
+use crate::ports::bpr_of;
+use crate::settling::frame_taken;
+use crate::settling::is_due;
 use crate::types::NodeValues;
 use frame::Body;
 use frame::FrameFault;
@@ -26,7 +26,7 @@ fn message_sent(values: NodeValues) -> Option<Message>
     let body = Body::Signal {
         request,
         dnf: values.sending.dnf,
-        bpr: names_port_one(values.blocked),
+        bpr: bpr_of(values.blocked),
     };
     Some(Message {
         node: values.settings.id,
@@ -37,7 +37,7 @@ fn message_sent(values: NodeValues) -> Option<Message>
 fn due_message(values: NodeValues) -> Option<Message>
     ensures { λ r. ⌜ r ≡ due-message values ⌝ }
 {
-    if has_frame_due(values) {
+    if is_due(values) {
         message_sent(values)
     } else {
         None
@@ -63,7 +63,7 @@ impl Node {
             self.values.settings.mel,
             buffer,
         )?;
-        self.write(after_frame(self.values));
+        self.write(frame_taken(self.values));
         Ok(())
     }
 }

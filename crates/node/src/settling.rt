@@ -2,15 +2,15 @@
 ghost use mathlib.Core.Path.{_≡_};
 ghost use Prim.Native.Nat.{_-_};
 ghost use Rattle.node.specs.Names.{is-sending, sent-number};
-ghost use Rattle.node.specs.Settling.{fresh-due, frame-taken, is-due, lowered, lowered-due, newly, restarted, same-sent, settle, start-port, started, tick-row};
-use crate::ports::names_port_one;
-use crate::ports::only_port;
+ghost use Rattle.node.specs.Settling.{fresh-due, frame-taken, is-due, lowered, lowered-due, newly-blocked, restarted, same-sent, settle, start-port, started, tick-row};
+use crate::ports::bpr_of;
+use crate::ports::only;
 use crate::rows::NO_COMMANDS;
 use crate::rows::SENDS_NR;
 use crate::rows::is_owner;
-use crate::rows::present_failure;
-use crate::rows::rest_at_rpl;
-use crate::rows::stay;
+use crate::rows::present;
+use crate::rows::rest;
+use crate::rows::still;
 use crate::types::Due;
 use crate::types::NodeValues;
 use crate::types::Outcome;
@@ -55,21 +55,21 @@ fn sent_number(request: Option<Request>) -> u8
     }
 }
 
-fn sends_alike(was: NodeValues, after: NodeValues) -> bool
+fn same_sent(was: NodeValues, after: NodeValues) -> bool
     ensures { λ r. ⌜ r ≡ same-sent was after ⌝ }
 {
     (sent_number(was.sending.request) == sent_number(after.sending.request))
         & (was.sending.dnf == after.sending.dnf)
-        & (names_port_one(was.blocked) == names_port_one(after.blocked))
+        & (bpr_of(was.blocked) == bpr_of(after.blocked))
 }
 
-fn newly_blocks(was: Ports, after: Ports) -> bool
-    ensures { λ r. ⌜ r ≡ newly was after ⌝ }
+fn newly_blocked(was: Ports, after: Ports) -> bool
+    ensures { λ r. ⌜ r ≡ newly-blocked was after ⌝ }
 {
     (after.p0 & !was.p0) | (after.p1 & !was.p1)
 }
 
-fn due_first(request: Option<Request>) -> Due
+fn fresh_due(request: Option<Request>) -> Due
     ensures { λ r. ⌜ r ≡ fresh-due request ⌝ }
 {
     Due {
@@ -79,16 +79,16 @@ fn due_first(request: Option<Request>) -> Due
 }
 
 // A change of what is sent starts a burst; a newly blocked port zeroes the pairs.
-pub(crate) fn settle_after(was: NodeValues, o: Outcome) -> Outcome
+pub(crate) fn settle(was: NodeValues, o: Outcome) -> Outcome
     ensures { λ r. ⌜ r ≡ settle was o ⌝ }
 {
     let mut after = o.values;
-    after.due = if sends_alike(was, after) {
+    after.due = if same_sent(was, after) {
         was.due
     } else {
-        due_first(after.sending.request)
+        fresh_due(after.sending.request)
     };
-    if newly_blocks(was.blocked, after.blocked) {
+    if newly_blocked(was.blocked, after.blocked) {
         after.pair0 = ZERO_PAIR;
         after.pair1 = ZERO_PAIR;
     }
@@ -99,7 +99,7 @@ pub(crate) fn settle_after(was: NodeValues, o: Outcome) -> Outcome
 }
 
 // The wait runs only after the burst.
-fn lower_due(due: Due) -> Due
+fn lowered_due(due: Due) -> Due
     ensures { λ r. ⌜ r ≡ lowered-due due ⌝ }
 {
     if due.burst == 0 {
@@ -112,7 +112,7 @@ fn lower_due(due: Due) -> Due
     }
 }
 
-pub(crate) fn lower(values: NodeValues) -> NodeValues
+pub(crate) fn lowered(values: NodeValues) -> NodeValues
     ensures { λ r. ⌜ r ≡ lowered values ⌝ }
 {
     NodeValues {
@@ -121,23 +121,23 @@ pub(crate) fn lower(values: NodeValues) -> NodeValues
             wtr: values.timers.wtr.saturating_sub(1),
             wtb: values.timers.wtb.saturating_sub(1),
         },
-        due: lower_due(values.due),
+        due: lowered_due(values.due),
         ..values
     }
 }
 
 // A delay timer that comes to 0 expires in this very tick.
-pub(crate) fn row_tick(values: NodeValues) -> Outcome
+pub(crate) fn tick_row(values: NodeValues) -> Outcome
     ensures { λ r. ⌜ r ≡ tick-row values ⌝ }
 {
     if (values.timers.wtr == 1) | (values.timers.wtb == 1) {
-        rest_at_rpl(lower(values))
+        rest(lowered(values))
     } else {
-        stay(lower(values))
+        still(lowered(values))
     }
 }
 
-fn port_at_start(role: Role, rpl: Port) -> Port
+fn start_port(role: Role, rpl: Port) -> Port
     ensures { λ r. ⌜ r ≡ start-port role rpl ⌝ }
 {
     match role {
@@ -147,14 +147,14 @@ fn port_at_start(role: Role, rpl: Port) -> Port
 }
 
 // Start.
-pub(crate) fn start(settings: Settings, failed: Ports) -> NodeValues
+pub(crate) fn started(settings: Settings, failed: Ports) -> NodeValues
     ensures { λ r. ⌜ r ≡ started settings failed ⌝ }
 {
     let waits = is_owner(settings.role) & settings.revertive;
     NodeValues {
         settings,
         state: State::Pending,
-        blocked: only_port(port_at_start(settings.role, settings.rpl)),
+        blocked: only(start_port(settings.role, settings.rpl)),
         failed,
         commands: NO_COMMANDS,
         sending: SENDS_NR,
@@ -163,7 +163,7 @@ pub(crate) fn start(settings: Settings, failed: Ports) -> NodeValues
             wtr: if waits { WTR_START } else { 0 },
             wtb: 0,
         },
-        due: due_first(Some(Request::NoRequest)),
+        due: fresh_due(Some(Request::NoRequest)),
         pair0: ZERO_PAIR,
         pair1: ZERO_PAIR,
         mismatch: false,
@@ -171,26 +171,26 @@ pub(crate) fn start(settings: Settings, failed: Ports) -> NodeValues
 }
 
 // Start again with the failures that stand: three frames are due in any case.
-pub(crate) fn start_again(values: NodeValues) -> Outcome
+pub(crate) fn restarted(values: NodeValues) -> Outcome
     ensures { λ r. ⌜ r ≡ restarted values ⌝ }
 {
-    let o = present_failure(start(values.settings, values.failed));
+    let o = present(started(values.settings, values.failed));
     Outcome {
         values: NodeValues {
-            due: due_first(o.values.sending.request),
+            due: fresh_due(o.values.sending.request),
             ..o.values
         },
         flush: o.flush,
     }
 }
 
-pub(crate) fn has_frame_due(values: NodeValues) -> bool
+pub(crate) fn is_due(values: NodeValues) -> bool
     ensures { λ r. ⌜ r ≡ is-due values ⌝ }
 {
     is_sending(values.sending.request) & ((values.due.burst > 0) | (values.due.wait == 0))
 }
 
-pub(crate) fn after_frame(values: NodeValues) -> NodeValues
+pub(crate) fn frame_taken(values: NodeValues) -> NodeValues
     ensures { λ r. ⌜ r ≡ frame-taken values ⌝ }
 {
     NodeValues {

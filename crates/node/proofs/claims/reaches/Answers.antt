@@ -5,4 +5,4 @@ use Rattle.node.proofs.claims.reaches.Needs as need
 
 pub returns : need.returns
 unfolding reaches
-returns c = c .is-top .ensures ∙ ap is-first (c .highest .ensures .value ∙ ap (first-highest slot-rank) (cc))
+returns c = c .is-first .ensures ∙ ap is-first (c .highest .ensures .value ∙ ap (first-highest slot-rank) (cc))

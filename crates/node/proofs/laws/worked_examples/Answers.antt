@@ -10,7 +10,7 @@ returns c = record {
   owner = record { state = refl; ports = refl; sends = refl; wtr = refl; burst = refl };
   restores = record { before = refl; state = refl; sends = refl };
   forced = record { state = refl; sends = refl; flush = refl };
-  hears = record { higher = refl; lower = refl };
+  hears = record { higher = refl; quiet = refl; lower = refl };
   repaired = record { state = refl; sends = refl; ports = refl };
   cleared = record { state = refl; ports = refl; sends = refl; guard = refl };
 }

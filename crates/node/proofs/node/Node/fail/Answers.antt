@@ -7,4 +7,4 @@ pub commit-requires : need.commit-requires
 commit-requires g c κs =
     let n = c .args .self .now in
     let p = c .in-Continue-at .at in
-    rw (c .settle-after-o .ensures, c .row-fail .ensures) (owed (n .values) (fail-row (n .values) p .values) (n .burst) (fail-keeps (n .values) p (of-node n)))
+    rw (c .settle-o .ensures, c .fail-row .ensures) (owed (n .values) (fail-row (n .values) p .values) (n .burst) (fail-keeps (n .values) p (of-node n)))

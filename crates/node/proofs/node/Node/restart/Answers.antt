@@ -2,4 +2,4 @@ use Rattle.node.proofs.Frames.{restart-keeps}
 use Rattle.node.proofs.node.Node.restart.Needs as need
 
 pub commit-requires : need.commit-requires
-commit-requires g c κs = rw (c .start-again-o .ensures) (restart-keeps (c .args .self .now .values) (c .args .self .now .settings))
+commit-requires g c κs = rw (c .restarted-o .ensures) (restart-keeps (c .args .self .now .values) (c .args .self .now .settings))

@@ -8,5 +8,5 @@ pub commit-requires : need.commit-requires
 commit-requires g c κs =
     let n = c .args .self .now in
     let p = c .in-Continue-at .at in
-    rw (c .settle-after-o .ensures, c .row-manual .ensures)
+    rw (c .settle-o .ensures, c .manual-row .ensures)
     (owed (n .values) (manual-row (n .values) p .values) (n .burst) (manual-keeps (n .values) p (sym (c .takes-manual .ensures) ∙ c .if-not-takes-manual .left) (of-node n)))

@@ -26,7 +26,7 @@ write-requires c κs =
     let n = c .args .self .now in
     let d = due-some (n .values) (c .in-Some .message) (c .in-Some .ensures tt) in
     let s = of-node n in
-    rw (c .after-frame .ensures)
+    rw (c .frame-taken .ensures)
     (all-rules (frame-taken (n .values))
     (record { settings = s .settings; failed = s .failed; forced = s .forced; sending = s .sending; timers = s .timers; idle = s .idle })
     (frame-burst (n .values) (d .0) (n .burst)))
@@ -39,6 +39,6 @@ returns c =
     let short : ltb (length (c .args .buffer .now)) 55 ≡ false = le-ltb _ _ (c .if-buffer-lt-FRAME-LENGTH .left) in
     record {
       answer = sym (cond-false _ _ _ short ∙ cond-true _ _ _ (d .0));
-      values = c .write .ensures ∙ c .after-frame .ensures ∙ sym (cond-false _ _ _ short ∙ cond-true _ _ _ (d .0));
+      values = c .write .ensures ∙ c .frame-taken .ensures ∙ sym (cond-false _ _ _ short ∙ cond-true _ _ _ (d .0));
       left = c .write-frame .ensures .left ∙ w .1 ∙ ap (λ o. octets-of v o (c .args .buffer .now)) (c .in-Some .ensures tt) ∙ sym (cond-false _ _ _ short);
     }

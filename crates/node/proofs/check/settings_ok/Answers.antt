@@ -1,6 +1,6 @@
 use borrow.Author.Needs.{needs}
 use Rattle.node.specs.Rules.{settings-ok}
-use Rattle.node.proofs.check.settings_rule.Needs as need
+use Rattle.node.proofs.check.settings_ok.Needs as need
 
 pub returns-then-is-in-range : need.returns-then-is-in-range
 unfolding settings-ok
