@@ -1,4 +1,4 @@
--- The request table, Table 10-1. Assumes nothing.
+-- The request table, Table 10-1 of ITU-T G.8032. Assumes nothing.
 use mathlib.Core.Bool.{Bool, true, false, cond, _&&_}
 use mathlib.Core.List.{List, [], _∷_}
 use Prim.Native.Nat.{ℕ, zero, suc}
@@ -16,7 +16,7 @@ use Rattle.node.specs.declared.types.NodeValues.{NodeValues}
 use Rattle.node.specs.Names.{by-state}
 use Rattle.node.specs.Ports.{some}
 
--- the fourteen requests, highest first
+-- the fourteen requests, the highest first: a higher number stands higher
 abbrev pub claim-rank : Claim → ℕ
 claim-rank Clear = 14
 claim-rank Forced = 13
@@ -68,6 +68,6 @@ is-first None = false
 is-first (Some zero) = true
 is-first (Some (suc n)) = false
 
--- a request reaches its row if it is the highest among the standing ones, or the first among equals
+-- the new request is put first, then what stands: it reaches its row if it is the one chosen, the first of the highest
 unfoldable pub reaches : NodeValues → Claim → Bool
 reaches v c = is-first (first-highest slot-rank (slot-if true c ∷ standing v))

@@ -14,7 +14,8 @@ use Rattle.node.specs.Ports.{port-number}
 abbrev pub with-port : Option ℕ → Refusal → Refusal
 with-port p r = record { number = r .number; layer = r .layer; station = r .station; port = p; octet = r .octet }
 
--- each refusal with number, layer and place: the frame's own at the call's port, 9 at the first port that differs
+-- each refusal with number, layer and place: the frame's own, 8 and 11 at the call's port, 9 at the first port that differs,
+-- 10, 12 and 13 nowhere
 abbrev pub node-refusal : Option ℕ → NodeFault → Refusal
 node-refusal called (Frame e) = with-port called (refusal e)
 node-refusal called (NoSuchPort p) = at-port by-node 8 p

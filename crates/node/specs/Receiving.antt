@@ -52,7 +52,7 @@ with-mismatch v b = record {
   mismatch = b;
 }
 
--- an owner that hears NR,RB of another sets the mismatch mark, which stays
+-- an owner that hears NR,RB of another past guard sets the mismatch mark, also where no row is reached; it stays until restart
 abbrev pub is-foreign-rb : NodeValues → Heard → Bool
 is-foreign-rb v q = is-owner (v .settings .role) && (is-rpl-blocked (q .request) && not (is-own v (q .node)))
 
@@ -74,7 +74,8 @@ same-pair a b = eqb (id-number (a .0)) (id-number (b .0)) && Bool·beq (a .1) (b
 abbrev pub pair-of : Heard → NodeId × Bool
 pair-of q = (q .node, q .bpr)
 
--- NR without RB zeroes the receiving port's pair; another message whose pair differs from the one stored there is stored
+-- NR without RB zeroes the receiving port's pair; another message whose pair differs from the
+-- one stored there is stored
 abbrev pub pair-after : NodeId × Bool → Heard → NodeId × Bool
 pair-after stored q = cond (is-no-request (q .request)) zero-pair (cond (same-pair (pair-of q) stored) stored (pair-of q))
 

@@ -1,4 +1,5 @@
--- Table 10-2: its action parts, then its rows, by request and state. Assumes nothing.
+-- Table 10-2 of ITU-T G.8032: its action parts, then its rows, by request and state; marks and commands go with them.
+-- Assumes nothing.
 use mathlib.Core.Bool.{Bool, true, false, not, cond, _&&_, _||_}
 use Prim.Native.Nat.{ℕ, _-_}
 use lib.Dec.{eqb, ltb}
@@ -106,13 +107,15 @@ seize-failed v =
 abbrev pub rest : NodeValues → Outcome
 rest v = seize v (v .settings .rpl) RplBlocked Idle no-commands
 
--- Release: where a port is blocked, start guard, send NR, Await WTB. Then pending. Commands end.
+-- Release: where a port is blocked, start guard, send NR, Await WTB. Then pending. Commands end: Clear ends them, and
+-- R-APS(MS) leaves manual switch.
 abbrev pub release : NodeValues → NodeValues
 release v = cond (some (v .blocked))
     (moved v Pending (v .blocked) no-commands (send NoRequest false) (await-wtb v guard-start))
     (moved v Pending (v .blocked) no-commands (v .sending) (v .timers))
 
--- Yield: open ports without failure, stop sending
+-- Yield: open ports without failure, stop sending. WTR and WTB stop too, which only shows where pending is left: while one
+-- runs, no message that yields in pending reaches its row.
 abbrev pub yield-to : NodeValues → State → Outcome
 yield-to v s = still (moved v s (meet (v .blocked) (v .failed)) no-commands silent (stopped (v .timers)))
 
@@ -126,13 +129,14 @@ present v = cond (some (v .failed)) (seize-failed v) (still v)
 
 -- ---- the rows of local requests
 
+-- Clear
 abbrev pub clear-row : NodeValues → Outcome
 clear-row v = by-state (v .state)
-    (still v)
-    (still v)
-    (still (release v))
-    (present (release v))
-    (cond (is-owner (v .settings .role)) (rest v) (still v))
+    (still v)  -- idle
+    (still v)  -- protection
+    (still (release v))  -- manual switch
+    (present (release v))  -- forced switch
+    (cond (is-owner (v .settings .role)) (rest v) (still v))  -- pending
 
 -- FS p: outside forced switch Seize; in it block p, send FS, flush
 abbrev pub force-more : NodeValues → Port → Outcome
@@ -144,7 +148,12 @@ abbrev pub force-new : NodeValues → Port → Outcome
 force-new v p = seize v p ForcedSwitch Forced (forcing (only p))
 
 abbrev pub force-row : NodeValues → Port → Outcome
-force-row v p = by-state (v .state) (force-new v p) (force-new v p) (force-new v p) (force-more v p) (force-new v p)
+force-row v p = by-state (v .state)
+    (force-new v p)  -- idle
+    (force-new v p)  -- protection
+    (force-new v p)  -- manual switch
+    (force-more v p)  -- forced switch
+    (force-new v p)  -- pending
 
 -- MS p, in idle and pending
 abbrev pub manual-row : NodeValues → Port → Outcome
@@ -152,7 +161,12 @@ manual-row v p = seize v p ManualSwitch Manual (record { forced = none; manual =
 
 -- a failure: the mark, then outside forced switch local SF; one that stands already changes nothing
 abbrev pub newly-failed : NodeValues → Outcome
-newly-failed v = by-state (v .state) (seize-failed v) (seize-failed v) (seize-failed v) (still v) (seize-failed v)
+newly-failed v = by-state (v .state)
+    (seize-failed v)  -- idle
+    (seize-failed v)  -- protection
+    (seize-failed v)  -- manual switch
+    (still v)  -- forced switch
+    (seize-failed v)  -- pending
 
 abbrev pub fail-row : NodeValues → Port → Outcome
 fail-row v p = cond (at (v .failed) p) (still v) (newly-failed (with-failed v (with-mark (v .failed) p true)))
@@ -163,7 +177,12 @@ clear-fail v = still (moved v Pending (v .blocked) no-commands (send NoRequest f
 
 -- a repair: the mark, then in protection local SF again while the other port is failed, else local clear SF
 abbrev pub repaired : NodeValues → Outcome
-repaired v = by-state (v .state) (still v) (cond (some (v .failed)) (seize-failed v) (clear-fail v)) (still v) (still v) (still v)
+repaired v = by-state (v .state)
+    (still v)  -- idle
+    (cond (some (v .failed)) (seize-failed v) (clear-fail v))  -- protection
+    (still v)  -- manual switch
+    (still v)  -- forced switch
+    (still v)  -- pending
 
 abbrev pub repair-row : NodeValues → Port → Outcome
 repair-row v p = cond (at (v .failed) p) (repaired (with-failed v (with-mark (v .failed) p false))) (still v)
@@ -175,20 +194,30 @@ abbrev pub open-both : NodeValues → Outcome
 open-both v = still (moved v Forced none no-commands silent (stopped (v .timers)))
 
 abbrev pub heard-forced : NodeValues → Outcome
-heard-forced v = by-state (v .state) (open-both v) (open-both v) (open-both v) (still v) (open-both v)
+heard-forced v = by-state (v .state)
+    (open-both v)  -- idle
+    (open-both v)  -- protection
+    (open-both v)  -- manual switch
+    (still v)  -- forced switch
+    (open-both v)  -- pending
 
 -- R-APS(SF)
 abbrev pub heard-fail : NodeValues → Outcome
-heard-fail v = by-state (v .state) (yield-to v Protection) (still v) (yield-to v Protection) (still v) (yield-to v Protection)
+heard-fail v = by-state (v .state)
+    (yield-to v Protection)  -- idle
+    (still v)  -- protection
+    (yield-to v Protection)  -- manual switch
+    (still v)  -- forced switch
+    (yield-to v Protection)  -- pending
 
 -- R-APS(MS)
 abbrev pub heard-manual : NodeValues → Outcome
 heard-manual v = by-state (v .state)
-    (yield-to v Manual)
-    (still v)
-    (still (cond (some (v .blocked)) (release v) v))
-    (still v)
-    (yield-to v Manual)
+    (yield-to v Manual)  -- idle
+    (still v)  -- protection
+    (still (cond (some (v .blocked)) (release v) v))  -- manual switch
+    (still v)  -- forced switch
+    (yield-to v Manual)  -- pending
 
 -- R-APS(NR,RB): all but the owner stop sending in idle
 abbrev pub quiet-unless-owner : NodeValues → Sending
@@ -202,11 +231,12 @@ to-idle Neighbour v = moved v Idle (only (v .settings .rpl)) no-commands silent 
 
 abbrev pub heard-rpl-blocked : NodeValues → Outcome
 heard-rpl-blocked v = by-state (v .state)
+    -- idle
     (still (moved v Idle (meet (v .blocked) (idle-ports (v .settings .role) (v .settings .rpl))) no-commands (quiet-unless-owner v) (v .timers)))
-    (still (pend v (v .timers)))
-    (still (pend v (v .timers)))
-    (present (pend v (v .timers)))
-    (still (to-idle (v .settings .role) v))
+    (still (pend v (v .timers)))  -- protection
+    (still (pend v (v .timers)))  -- manual switch
+    (present (pend v (v .timers)))  -- forced switch
+    (still (to-idle (v .settings .role) v))  -- pending
 
 -- R-APS(NR): the sender's ID higher than the own
 abbrev pub higher : NodeValues → NodeId → Bool
@@ -214,11 +244,11 @@ higher v n = ltb (id-number (v .settings .id)) (id-number n)
 
 abbrev pub heard-no-request : NodeValues → NodeId → Outcome
 heard-no-request v n = by-state (v .state)
-    (cond (is-other (v .settings .role) && higher v n) (yield-to v Idle) (still v))
-    (still (pend v (await-wtr v (v .timers .guard))))
-    (still (pend v (await-wtb v (v .timers .guard))))
-    (present (pend v (await-wtb v (v .timers .guard))))
-    (cond (higher v n) (yield-to v Pending) (still v))
+    (cond (is-other (v .settings .role) && higher v n) (yield-to v Idle) (still v))  -- idle
+    (still (pend v (await-wtr v (v .timers .guard))))  -- protection
+    (still (pend v (await-wtb v (v .timers .guard))))  -- manual switch
+    (present (pend v (await-wtb v (v .timers .guard))))  -- forced switch
+    (cond (higher v n) (yield-to v Pending) (still v))  -- pending
 
 abbrev pub heard-row : Request → NodeValues → NodeId → Outcome
 heard-row ForcedSwitch v n = heard-forced v

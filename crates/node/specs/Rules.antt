@@ -36,7 +36,12 @@ settings-ok g = in-range (g .id) (g .channel) (g .mel) && rpl-fits (g .role) (g 
 
 -- a failed port means protection or forced switch, and outside forced switch it is blocked
 abbrev pub failed-ok : State → Ports → Ports → Bool
-failed-ok s blocked failed = by-state s (not (some failed)) (within failed blocked) (not (some failed)) true (not (some failed))
+failed-ok s blocked failed = by-state s
+    (not (some failed))  -- idle
+    (within failed blocked)  -- protection
+    (not (some failed))  -- manual switch
+    true  -- forced switch
+    (not (some failed))  -- pending
 
 abbrev pub manual-blocked : Option Port → Ports → Bool
 manual-blocked None b = true
@@ -48,11 +53,11 @@ none-in-force c = not (some (c .forced)) && not (isSome (c .manual))
 -- a forced port means forced switch and is blocked; a port under MS means manual switch and is blocked
 abbrev pub forced-ok : State → Ports → Commands → Bool
 forced-ok s blocked c = by-state s
-    (none-in-force c)
-    (none-in-force c)
-    (not (some (c .forced)) && manual-blocked (c .manual) blocked)
-    (within (c .forced) blocked && not (isSome (c .manual)))
-    (none-in-force c)
+    (none-in-force c)  -- idle
+    (none-in-force c)  -- protection
+    (not (some (c .forced)) && manual-blocked (c .manual) blocked)  -- manual switch
+    (within (c .forced) blocked && not (isSome (c .manual)))  -- forced switch
+    (none-in-force c)  -- pending
 
 -- which message may be sent: NR only in pending or by an owner with the mismatch mark, and without DNF; NR,RB only by an
 -- owner in idle; SF only in protection with a failed port; MS and FS only with that command in force; DNF only with a message
@@ -64,12 +69,13 @@ message-ok (Some SignalFail) r s failed c dnf mismatch = by-state s false (some 
 message-ok (Some ManualSwitch) r s failed c dnf mismatch = isSome (c .manual)
 message-ok (Some ForcedSwitch) r s failed c dnf mismatch = some (c .forced)
 
--- and without the mismatch mark a sender blocks the port that its message names: port 1 if it alone is blocked, else port 0
+-- and without the mismatch mark a sender blocks the port that its message names. That is port 1 if it alone is blocked, else
+-- port 0, so it is blocked exactly if some port is.
 abbrev pub sending-ok : Role → State → Ports → Ports → Commands → Sending → Bool → Bool
 sending-ok r s blocked failed c m mismatch =
     message-ok (m .request) r s failed c (m .dnf) mismatch && (mismatch || implies (is-sending (m .request)) (some blocked))
 
--- while nothing is sent, burst and wait are 0; a burst has wait 0
+-- while nothing is sent, burst and wait are 0; a burst has wait 0; a burst is at most 3, a wait at most 500
 abbrev pub due-ok : Bool → ℕ → ℕ → Bool
 due-ok true b w = leb b burst-start && (leb w wait-start && (eqb b 0 || eqb w 0))
 due-ok false b w = eqb b 0 && eqb w 0
@@ -87,13 +93,13 @@ timers-ok r revertive s t =
     (leb (t .guard) guard-start && (leb (t .wtr) wtr-start && leb (t .wtb) wtb-start))
     && waits-ok (is-owner r && (revertive && by-state s false false false false true)) (t .wtr) (t .wtb)
 
--- the ports that an idle station blocks: owner and neighbour the RPL port, any other none
+-- the ports that an idle node blocks: owner and neighbour the RPL port, any other none
 abbrev pub idle-ports : Role → Port → Ports
 idle-ports Other p = none
 idle-ports Owner p = only p
 idle-ports Neighbour p = only p
 
--- without the mismatch mark, an idle station blocks these and no other
+-- without the mismatch mark, an idle node blocks these and no other
 abbrev pub idle-ok : Role → Port → State → Ports → Bool → Bool
 idle-ok r rpl s blocked mismatch = mismatch || by-state s (same blocked (idle-ports r rpl)) true true true true
 

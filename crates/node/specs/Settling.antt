@@ -70,7 +70,8 @@ with-pairs v a b = record {
   mismatch = v .mismatch;
 }
 
--- from the values before a call, v, and those that its rows gave, w. Where a call has two rows the first changes no port.
+-- from the values before a call, v, and those that its rows gave, w. A call has two rows where Clear, NR or NR,RB leaves
+-- forced switch and local SF follows; the first of them changes no port, so one comparison serves.
 abbrev pub settled : NodeValues → NodeValues → NodeValues
 settled v w =
     with-pairs (with-due w (cond (same-sent v w) (v .due) (fresh-due (w .sending .request))))

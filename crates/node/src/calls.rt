@@ -93,7 +93,7 @@ impl Node {
         Ok(Node { values })
     }
 
-    // FS at a port.
+    // Forced switch (FS) at a port.
     pub fn force<F: Fabric>(&mut self, fabric: &mut F, port: u8) -> Result<(), NodeFault>
         ensures answer { λ r. ⌜ told-at (Some port) r ≡ force-step (now (self .entry) .values) (marks (now (fabric .entry))) port .answer ⌝ }
         ensures values { λ _. ⌜ now (self .exit) .values ≡ force-step (now (self .entry) .values) (marks (now (fabric .entry))) port .values ⌝ }
@@ -107,7 +107,7 @@ impl Node {
         Ok(())
     }
 
-    // MS at a port.
+    // Manual switch (MS) at a port.
     pub fn switch<F: Fabric>(&mut self, fabric: &mut F, port: u8) -> Result<(), NodeFault>
         ensures answer { λ r. ⌜ told-at (Some port) r ≡ manual-step (now (self .entry) .values) (marks (now (fabric .entry))) port .answer ⌝ }
         ensures values { λ _. ⌜ now (self .exit) .values ≡ manual-step (now (self .entry) .values) (marks (now (fabric .entry))) port .values ⌝ }

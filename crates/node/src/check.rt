@@ -12,6 +12,11 @@ use crate::ports::within;
 use crate::receiving::idle_ports;
 use crate::rows::is_owner;
 use crate::settling::is_sending;
+use crate::starts::BURST_START;
+use crate::starts::GUARD_START;
+use crate::starts::WAIT_START;
+use crate::starts::WTB_START;
+use crate::starts::WTR_START;
 use crate::types::Commands;
 use crate::types::Due;
 use crate::types::NodeValues;
@@ -126,7 +131,8 @@ fn burst_ok(sending: Sending, due: Due) -> bool
     ensures { λ r. ⌜ r ≡ burst-ok sending due ⌝ }
 {
     if is_sending(sending.request) {
-        (due.burst <= 3) & ((due.wait <= 500) & ((due.burst == 0) | (due.wait == 0)))
+        (due.burst <= BURST_START)
+            & ((due.wait <= WAIT_START) & ((due.burst == 0) | (due.wait == 0)))
     } else {
         (due.burst == 0) & (due.wait == 0)
     }
@@ -135,7 +141,8 @@ fn burst_ok(sending: Sending, due: Due) -> bool
 fn timers_ok(role: Role, revertive: bool, state: State, timers: Timers) -> bool
     ensures { λ r. ⌜ r ≡ timers-ok role revertive state timers ⌝ }
 {
-    let bounded = (timers.guard <= 50) & ((timers.wtr <= 30_000) & (timers.wtb <= 550));
+    let bounded = (timers.guard <= GUARD_START)
+        & ((timers.wtr <= WTR_START) & (timers.wtb <= WTB_START));
     let waits = if is_owner(role) & (revertive & is_pending(state)) {
         (timers.wtr == 0) | (timers.wtb == 0)
     } else {

@@ -1,4 +1,4 @@
-// The request table (Table 10-1): which request is the highest.
+// The request table (Table 10-1 of ITU-T G.8032): which request is the highest.
 ghost use mathlib.Core.Path.{_≡_};
 ghost use Rattle.node.specs.Claims.{claim-of, claim-rank, fail-stands, is-first, reaches, slot-if, slot-rank};
 use crate::ports::some;

@@ -1,4 +1,4 @@
-// Table 10-2 on plain values: the action parts, then the rows of local requests.
+// Table 10-2 of ITU-T G.8032 on plain values: the action parts, then the rows of local requests.
 ghost use mathlib.Core.Path.{_≡_};
 ghost use Prim.Native.Nat.{ℕ};
 ghost use Rattle.node.specs.Names.{is-owner};
@@ -10,6 +10,9 @@ use crate::ports::only;
 use crate::ports::some;
 use crate::ports::with_mark;
 use crate::ports::within;
+use crate::starts::GUARD_START;
+use crate::starts::WTB_START;
+use crate::starts::WTR_START;
 use crate::types::Commands;
 use crate::types::NodeValues;
 use crate::types::Outcome;
@@ -20,12 +23,6 @@ use crate::types::State;
 use crate::types::Timers;
 use fabric::Ports;
 use frame::Request;
-
-pub(crate) const GUARD_START: u16 = 50;
-
-const WTR_START: u16 = 30_000;
-
-const WTB_START: u16 = 550;
 
 pub(crate) const NO_COMMANDS: Commands = Commands {
     forced: NO_PORT,

@@ -11,6 +11,9 @@ use crate::rows::is_owner;
 use crate::rows::present;
 use crate::rows::rest;
 use crate::rows::still;
+use crate::starts::BURST_START;
+use crate::starts::WAIT_START;
+use crate::starts::WTR_START;
 use crate::types::Due;
 use crate::types::NodeValues;
 use crate::types::Outcome;
@@ -22,12 +25,6 @@ use crate::types::Timers;
 use fabric::Ports;
 use frame::NodeId;
 use frame::Request;
-
-const BURST_START: u8 = 3;
-
-const WAIT_START: u16 = 500;
-
-const WTR_START: u16 = 30_000;
 
 pub(crate) const ZERO_PAIR: (NodeId, bool) = (
     NodeId {
@@ -42,7 +39,8 @@ pub(crate) fn is_sending(request: Option<Request>) -> bool
     request.is_some()
 }
 
-fn sent_number(request: Option<Request>) -> u8
+// The number of the message that is sent: none 0, NR 1, NR,RB 2, MS 3, SF 4, FS 5.
+pub fn sent_number(request: Option<Request>) -> u8
     ensures { λ r. ⌜ r ≡ sent-number request ⌝ }
 {
     match request {

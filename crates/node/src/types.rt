@@ -18,7 +18,7 @@ pub enum Port {
     One,
 }
 
-// The states A to E of Table 10-2.
+// The states A to E of Table 10-2 of ITU-T G.8032.
 #[derive(Clone, Copy)]
 pub enum State {
     Idle,
@@ -38,7 +38,7 @@ pub struct Settings {
     pub revertive: bool,
 }
 
-// The commands in force: FS at each port, and the port under MS.
+// The commands in force: forced switch (FS) at each port, and the port under manual switch (MS).
 #[derive(Clone, Copy)]
 pub struct Commands {
     pub forced: Ports,
@@ -52,7 +52,7 @@ pub struct Sending {
     pub dnf: bool,
 }
 
-// Ticks left; 0 where a timer does not run.
+// Ticks left of guard, wait to restore (WTR) and wait to block (WTB); 0 where a timer does not run.
 #[derive(Clone, Copy)]
 pub struct Timers {
     pub guard: u16,

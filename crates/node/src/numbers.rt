@@ -1,11 +1,14 @@
-// What a node's refusal tells: number, port, octet.
+// The closed lists as numbers, and what a refusal tells: number, port, octet.
 ghost use mathlib.Core.Path.{_≡_};
 ghost use Prim.Native.Nat.{ℕ};
 ghost use Rattle.std.specs.declared.option.Option.{Option};
 ghost use Rattle.node.specs.Faults.{node-refusal};
+ghost use Rattle.node.specs.Names.{role-number, state-number};
 ghost use Rattle.node.specs.Ports.{port-number};
 use crate::faults::NodeFault;
 use crate::types::Port;
+use crate::types::Role;
+use crate::types::State;
 
 impl Port {
     pub fn number(self) -> u8
@@ -14,6 +17,33 @@ impl Port {
         match self {
             Port::Zero => 0,
             Port::One => 1,
+        }
+    }
+}
+
+impl State {
+    // A to E, from 0.
+    pub fn number(self) -> u8
+        ensures { λ r. ⌜ r ≡ state-number self ⌝ }
+    {
+        match self {
+            State::Idle => 0,
+            State::Protection => 1,
+            State::ManualSwitch => 2,
+            State::ForcedSwitch => 3,
+            State::Pending => 4,
+        }
+    }
+}
+
+impl Role {
+    pub fn number(self) -> u8
+        ensures { λ r. ⌜ r ≡ role-number self ⌝ }
+    {
+        match self {
+            Role::Other => 0,
+            Role::Owner => 1,
+            Role::Neighbour => 2,
         }
     }
 }
