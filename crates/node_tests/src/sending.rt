@@ -115,32 +115,15 @@ fn set_up() -> Result<(), Fail> {
     Ok(())
 }
 
-// Three frames are due at once, then none for 500 ticks; 7 is looked at before 12.
-#[test]
-fn frames_are_taken() -> Result<(), Fail> {
-    let mut fabric = RegisterFabric { word: 0 };
-    let Ok(mut node) = Node::set_up(settings(OWNER), &mut fabric) else {
-        return Err(Fail::new("refused"));
-    };
-    let mut buffer = [0xAA; 60];
-    for _ in 0..3 {
-        check(node.take_frame(&mut buffer).is_ok())?;
-    }
-    check_eq(buffer[22], 0x00)?;
-    check_eq(buffer[23], 0x00)?;
-    check_eq(buffer[29], 0x05)?;
-    check_eq(buffer[54], 0x00)?;
-    check_eq(buffer[55], 0xAA)?;
-    check(is_twelve(node.take_frame(&mut buffer)))?;
-    for _ in 0..499 {
-        check(node.tick(&mut fabric).is_ok())?;
-    }
-    check(is_twelve(node.take_frame(&mut buffer)))?;
-    check(node.tick(&mut fabric).is_ok())?;
-    check(is_seven(node.take_frame(&mut buffer[0..54])))?;
-    check(node.take_frame(&mut buffer[0..55]).is_ok())?;
-    check(is_seven(node.take_frame(&mut buffer[0..54])))?;
-    check(is_twelve(node.take_frame(&mut buffer[0..55])))
+// A frame request with a buffer of 60 octets, and one with 54.
+fn take(node: &mut Node) -> Result<(), NodeFault> {
+    let mut buffer = [0; 60];
+    node.take_frame(&mut buffer)
+}
+
+fn take_short(node: &mut Node) -> Result<(), NodeFault> {
+    let mut buffer = [0; 54];
+    node.take_frame(&mut buffer)
 }
 
 fn is_twelve(answer: Result<(), NodeFault>) -> bool {
@@ -149,4 +132,43 @@ fn is_twelve(answer: Result<(), NodeFault>) -> bool {
 
 fn is_seven(answer: Result<(), NodeFault>) -> bool {
     matches!(answer, Err(NodeFault::Frame(FrameFault::Buffer)))
+}
+
+// Three frames are due at once, then none for 500 ticks; 7 is looked at before 12.
+#[test]
+fn frames_are_taken() -> Result<(), Fail> {
+    let mut fabric = RegisterFabric { word: 0 };
+    let Ok(mut node) = Node::set_up(settings(OWNER), &mut fabric) else {
+        return Err(Fail::new("refused"));
+    };
+    check(take(&mut node).is_ok())?;
+    check(take(&mut node).is_ok())?;
+    check(take(&mut node).is_ok())?;
+    check(is_twelve(take(&mut node)))?;
+    for _ in 0..499 {
+        check(node.tick(&mut fabric).is_ok())?;
+    }
+    check(is_twelve(take(&mut node)))?;
+    check(node.tick(&mut fabric).is_ok())?;
+    check(is_seven(take_short(&mut node)))?;
+    check(take(&mut node).is_ok())?;
+    check(is_seven(take_short(&mut node)))?;
+    check(is_twelve(take(&mut node)))
+}
+
+// A new owner's frame: NR with neither bit, its ID at 24, and nothing past octet 54.
+#[test]
+fn a_frame_is_written() -> Result<(), Fail> {
+    let mut fabric = RegisterFabric { word: 0 };
+    let Ok(mut node) = Node::set_up(settings(OWNER), &mut fabric) else {
+        return Err(Fail::new("refused"));
+    };
+    let mut buffer = [0xAA; 57];
+    check(node.take_frame(&mut buffer).is_ok())?;
+    check_eq(buffer[22], 0x00)?;
+    check_eq(buffer[23], 0x00)?;
+    check_eq(buffer[29], 0x05)?;
+    check_eq(buffer[54], 0x00)?;
+    check_eq(buffer[55], 0xAA)?;
+    check_eq(buffer[56], 0xAA)
 }
