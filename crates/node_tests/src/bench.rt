@@ -52,7 +52,7 @@ pub const KEEPER: At = At::Keeper;
 
 pub const NEIGHBOUR: At = At::Neighbour;
 
-pub fn settings(at: At) -> Settings {
+pub(crate) fn settings(at: At) -> Settings {
     let (role, rpl, revertive) = match at {
         At::Other => (Role::Other, Port::Zero, true),
         At::Owner => (Role::Owner, Port::Zero, true),
@@ -142,13 +142,13 @@ pub struct Refusal {
     pub number: u8,
 }
 
-pub fn id(last: u8) -> NodeId {
+pub(crate) fn id(last: u8) -> NodeId {
     NodeId {
         octets: [0x00, 0x00, 0x5E, 0x00, 0x53, last],
     }
 }
 
-pub fn letter(state: State) -> char {
+pub(crate) fn letter(state: State) -> char {
     match state {
         State::Idle => 'A',
         State::Protection => 'B',
@@ -158,7 +158,7 @@ pub fn letter(state: State) -> char {
     }
 }
 
-pub fn ports(marks: Ports) -> Marked {
+pub(crate) fn ports(marks: Ports) -> Marked {
     match (marks.p0, marks.p1) {
         (false, false) => Marked::NoPort,
         (true, false) => Marked::Port0,
@@ -167,7 +167,7 @@ pub fn ports(marks: Ports) -> Marked {
     }
 }
 
-pub fn port_under(manual: Option<Port>) -> Marked {
+pub(crate) fn port_under(manual: Option<Port>) -> Marked {
     match manual {
         None => Marked::NoPort,
         Some(Port::Zero) => Marked::Port0,
@@ -175,7 +175,7 @@ pub fn port_under(manual: Option<Port>) -> Marked {
     }
 }
 
-pub fn message(sent: Option<Request>, dnf: bool) -> Sends {
+pub(crate) fn message(sent: Option<Request>, dnf: bool) -> Sends {
     match (sent, dnf) {
         (None, false) => Sends::Nothing,
         (Some(Request::NoRequest), false) => Sends::Nr,
@@ -192,7 +192,7 @@ pub fn message(sent: Option<Request>, dnf: bool) -> Sends {
 }
 
 // The fabric's answer on a mark.
-pub fn holds(answer: Result<bool, FabricFault>) -> bool {
+pub(crate) fn holds(answer: Result<bool, FabricFault>) -> bool {
     matches!(answer, Ok(true))
 }
 
@@ -204,7 +204,7 @@ pub struct Station {
 
 impl Station {
     // A refusal is told by its number.
-    pub fn new(at: At) -> Result<Station, u8> {
+    pub(crate) fn new(at: At) -> Result<Station, u8> {
         let mut fabric = RegisterFabric { word: 0x0234_5678 };
         match Node::set_up(settings(at), &mut fabric) {
             Ok(node) => Ok(Station { node, fabric }),
@@ -257,7 +257,7 @@ impl Station {
     }
 
     // Makes the call with addresses learned at both ports. A refusal is told by its number.
-    pub fn call(&mut self, call: Call) -> Result<(), u8> {
+    pub(crate) fn call(&mut self, call: Call) -> Result<(), u8> {
         self.fabric.word = self.fabric.word | 0x3000_0000;
         match self.make(call) {
             Ok(()) => Ok(()),
@@ -265,21 +265,21 @@ impl Station {
         }
     }
 
-    pub fn follow(&mut self, path: &[Call]) -> Result<(), u8> {
+    pub(crate) fn follow(&mut self, path: &[Call]) -> Result<(), u8> {
         for call in path {
             self.call(*call)?;
         }
         Ok(())
     }
 
-    pub fn brought(at: At, path: &[Call]) -> Result<Station, u8> {
+    pub(crate) fn brought(at: At, path: &[Call]) -> Result<Station, u8> {
         let mut station = Station::new(at)?;
         station.follow(path)?;
         Ok(station)
     }
 
     // What the status question answers, and whether both ports' addresses are gone.
-    pub fn seen(&self) -> Seen {
+    pub(crate) fn seen(&self) -> Seen {
         let status = self.node.status();
         let timers = status.timers;
         Seen(
@@ -292,7 +292,7 @@ impl Station {
     }
 
     // The fabric blocks what the node blocks; taught marks go together; host bits stay.
-    pub fn drives_well(&self) -> Result<(), Fail> {
+    pub(crate) fn drives_well(&self) -> Result<(), Fail> {
         let status = self.node.status();
         check_eq(holds(self.fabric.is_blocked(0)), status.blocked.p0)?;
         check_eq(holds(self.fabric.is_blocked(1)), status.blocked.p1)?;
@@ -304,7 +304,7 @@ impl Station {
     }
 }
 
-pub fn run(examples: &[Example]) -> Result<(), Fail> {
+pub(crate) fn run(examples: &[Example]) -> Result<(), Fail> {
     let mut number: u32 = 1;
     for example in examples {
         let mut station = Station::brought(example.at, example.path)?;
@@ -318,7 +318,7 @@ pub fn run(examples: &[Example]) -> Result<(), Fail> {
     Ok(())
 }
 
-pub fn run_refused(refusals: &[Refusal]) -> Result<(), Fail> {
+pub(crate) fn run_refused(refusals: &[Refusal]) -> Result<(), Fail> {
     let mut number: u32 = 1;
     for refusal in refusals {
         let mut station = Station::brought(refusal.at, refusal.path)?;

@@ -115,7 +115,7 @@ fn pass(node: &mut Node, fabric: &mut RegisterFabric, ticks: u16) -> Result<(), 
     Ok(())
 }
 
-pub fn show_station(rt: &LibcRuntime) -> io::Result<()> {
+pub(crate) fn show_station(rt: &LibcRuntime) -> io::Result<()> {
     println!(rt, "One station: owner, revertive, RPL at port 0")?;
     let mut fabric = RegisterFabric { word: 0 };
     let mut node = match Node::set_up(OWNER, &mut fabric) {
