@@ -1,0 +1,6 @@
+pub mod Below
+pub mod Distincts
+pub mod Doing
+pub mod Gates
+pub mod Settles
+pub mod Views

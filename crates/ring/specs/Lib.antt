@@ -1,0 +1,4 @@
+pub mod Calls
+pub mod Distinct
+pub mod Faults
+pub mod Row
