@@ -1,5 +1,6 @@
 // The rows of received messages, the mismatch mark and the flush logic, on plain values.
 ghost use mathlib.Core.Path.{_≡_};
+ghost use lib.Dec.{ltb};
 ghost use Rattle.node.specs.Names.{is-other};
 ghost use Rattle.node.specs.Receiving.{after-message, after-signal, flush-logic, is-foreign-rb, is-no-request, is-own, is-rpl-blocked, noted, pair-after, pair-flushes, reaches-row, row-of, same-pair};
 ghost use Rattle.node.specs.Rows.{heard-fail, heard-forced, heard-manual, heard-no-request, heard-row, heard-rpl-blocked, higher, quiet-unless-owner, to-idle};
@@ -280,10 +281,17 @@ fn flush_logic(o: Outcome, port: Port, heard: Heard) -> Outcome
     }
 }
 
+// While guard runs, signals are dropped.
+fn is_guarded(values: NodeValues) -> bool
+    ensures { λ r. ⌜ r ≡ ltb 0 (values .timers .guard) ⌝ }
+{
+    values.timers.guard > 0
+}
+
 fn after_signal(values: NodeValues, port: Port, heard: Heard) -> Outcome
     ensures { λ r. ⌜ r ≡ after-signal values port heard ⌝ }
 {
-    if values.timers.guard > 0 {
+    if is_guarded(values) {
         return still(values);
     }
     let o = settle(values, row_of(values, heard));
