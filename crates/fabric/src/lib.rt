@@ -1,4 +1,6 @@
 // What switches: a port fabric means four marks, and two fabrics that keep them.
+#![tactic(auto)]
+
 mod fabric;
 mod records;
 mod register;

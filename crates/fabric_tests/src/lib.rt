@@ -1,4 +1,6 @@
 // A third fabric, a generic caller, and examples.
+#![tactic(auto)]
+
 mod change;
 mod lamp;
 #[cfg(test)]

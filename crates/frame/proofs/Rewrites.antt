@@ -1,7 +1,6 @@
 -- A frame that was read, written again. Assumes nothing.
-use Rattle.std.proofs.Common.{◌≡◌, ℕ, zero, suc, ◌+◌, ◌*◌, ◌/◌, ◌%◌, ◌<◌, ◌≤◌, Bool, true, false, cond, eqb, ltb, leb, List, [], ◌∷◌, ◌++◌, length, get_or, replicate, Some, None, Option, sym, refl, ap, ◌∙◌, le_of_suc-le-suc, arith, below_none, below_more}
+use Rattle.std.proofs.Common.{◌≡◌, ℕ, zero, suc, ◌+◌, ◌*◌, ◌/◌, ◌%◌, ◌<◌, ◌≤◌, Bool, true, false, cond, List, [], ◌∷◌, ◌++◌, get_or, replicate, Some, None, Option, sym, refl, ap, ◌∙◌, le_of_suc-le-suc, arith, below_none, below_more}
 use Rattle.std.proofs.lemmas.List.{get_or-drop}
-use Rattle.std.specs.Option.{option_map}
 use Rattle.std.proofs.lemmas.Bool.Decides.{nat_tests}
 use Rattle.std.proofs.lemmas.Bool.{eqb-true, ltb-false}
 use Rattle.frame.specs.declared.types.Body.{Body}
@@ -11,7 +10,7 @@ use Rattle.frame.specs.declared.types.Message.{Message}
 use Rattle.frame.specs.declared.types.NodeId.{NodeId}
 use Rattle.frame.specs.declared.types.Request.{Request}
 use Rattle.frame.specs.declared.types.Request.TheVariants.{NoRequest, RplBlocked, ManualSwitch, SignalFail, ForcedSwitch}
-use Rattle.frame.specs.Reading.{reading, first_unequal, first_difference, header_octets, pdu_reading, body_reading, header_reading, then, body_of, request_of, node_of, bit}
+use Rattle.frame.specs.Reading.{reading, first_unequal, first_difference, header_octets, body_reading, header_reading, then, body_of, node_of, bit}
 use Rattle.frame.specs.Refusals.{Answer, gave, refused, Refusal}
 use Rattle.frame.specs.Requests.{coded, event_code}
 use Rattle.frame.specs.Rewriting.{Rewritten}

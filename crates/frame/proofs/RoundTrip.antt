@@ -1,6 +1,5 @@
 -- Reading what was written gives the message. Assumes nothing.
-use Rattle.std.proofs.Common.{◌≡◌, ℕ, ◌+◌, ◌*◌, ◌/◌, ◌%◌, ◌<◌, ◌≤◌, Bool, true, false, cond, ◌&&◌, eqb, ltb, leb, List, [], ◌∷◌, ◌++◌, length, get_or, drop, Some, None, sym, refl, ap, ◌∙◌, arith}
-use mathlib.Core.Path.{subst⁻¹}
+use Rattle.std.proofs.Common.{◌≡◌, ℕ, ◌+◌, ◌*◌, ◌/◌, ◌%◌, ◌≤◌, Bool, true, false, cond, eqb, ltb, List, [], ◌∷◌, ◌++◌, length, get_or, Some, None, sym, refl, ap, ◌∙◌, arith}
 use Rattle.std.proofs.lemmas.Bool.Decides.{nat_tests}
 use Rattle.std.proofs.lemmas.Bool.{le-ltb, lt-ltb, cond-true}
 use Rattle.std.specs.Option.{option_map}
@@ -8,7 +7,6 @@ use Rattle.frame.specs.declared.types.Body.{Body}
 use Rattle.frame.specs.declared.types.Body.TheVariants.{Event, Signal}
 use Rattle.frame.specs.declared.types.Channel.{Channel}
 use Rattle.frame.specs.declared.types.Message.{Message}
-use Rattle.frame.specs.declared.types.NodeId.{NodeId}
 use Rattle.frame.specs.declared.types.Request.{Request}
 use Rattle.frame.specs.declared.types.Request.TheVariants.{NoRequest, RplBlocked, ManualSwitch, SignalFail, ForcedSwitch}
 use Rattle.frame.specs.Reading.{reading, first_difference, pdu_reading, body_reading, body_of, node_of, request_of}

@@ -1,5 +1,5 @@
 -- The refusals of the frame library. Assumes nothing.
-use Rattle.std.specs.Prelude.{ℕ, Ok, Err, Result}
+use Rattle.std.specs.Prelude.{Ok, Err, Result}
 use Rattle.frame.specs.declared.types.FrameFault.{FrameFault}
 use Rattle.frame.specs.declared.types.FrameFault.TheVariants.{Short, Header, OpCode, TlvOffset, Reserved, TlvEnd, Buffer, Settings}
 use Rattle.frame.specs.Refusals.{Refusal, Answer, gave, refused, by_frame, at_octet, nowhere}

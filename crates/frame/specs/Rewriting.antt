@@ -1,5 +1,5 @@
 -- A frame that was read and is written again: octet by octet, what is the same. Assumes nothing.
-use Rattle.std.specs.Prelude.{◌≡◌, ℕ, ◌+◌, ◌*◌, ◌/◌, ◌%◌, ◌<◌, ◌≤◌, Bool, ◌⊎◌, List, [], ◌∷◌, ◌≢◌, slice_index, slice_index_or}
+use Rattle.std.specs.Prelude.{◌≡◌, ℕ, ◌+◌, ◌*◌, ◌/◌, ◌%◌, ◌<◌, ◌≤◌, List, ◌≢◌, slice_index, slice_index_or}
 use Rattle.frame.specs.Reading.{bit}
 use Rattle.frame.specs.Requests.{event_code}
 

@@ -1,9 +1,8 @@
 -- The worked example of the frame format. Assumes nothing.
-use Rattle.std.specs.Prelude.{◌≡◌, true, false, List, [], ◌∷◌, take, drop}
+use Rattle.std.specs.Prelude.{◌≡◌, true, false, [], ◌∷◌, take, drop}
 use Rattle.frame.specs.declared.types.Body.TheVariants.{Signal}
 use Rattle.frame.specs.declared.types.Channel.{Channel}
 use Rattle.frame.specs.declared.types.Message.{Message}
-use Rattle.frame.specs.declared.types.NodeId.{NodeId}
 use Rattle.frame.specs.declared.types.Request.TheVariants.{SignalFail}
 use Rattle.frame.specs.Writing.{frame_octets}
 

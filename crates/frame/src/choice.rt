@@ -13,8 +13,8 @@ pub trait Ranked {
 
 // The place of the highest, among equals the first; none of an empty slice.
 pub fn highest<T: Ranked>(items: &[T]) -> Option<usize>
-    ensures value { result ≡ first_highest rank items.now }
-    ensures law { MatchOption result (length items.now ≡ 0) (λ i. HighestAt rank items.now i) }
+    ensures value { result ≡ first_highest T.rank items.now }
+    ensures law { MatchOption result (length items.now ≡ 0) (λ i. HighestAt T.rank items.now i) }
 {
     if items.is_empty() {
         return None;

@@ -1,4 +1,6 @@
 // R-APS frames after ITU-T G.8032: their types, the reader, the writer, and the choice of the highest.
+#![tactic(auto)]
+
 mod choice;
 mod faults;
 mod ids;

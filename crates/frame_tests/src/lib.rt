@@ -1,4 +1,5 @@
 // Examples of the frame library, worked out by hand from the format in docs/PROTOCOL.md.
+#![tactic(auto)]
 
 #[cfg(test)]
 mod tests {

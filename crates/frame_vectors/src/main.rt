@@ -1,4 +1,6 @@
 // Answers the calls of a table of vectors, a line each: `read` and `write`.
+#![tactic(auto)]
+
 use script::{answer_read, answer_write};
 use std::alloc::{AllocError, Global};
 use std::io;

@@ -41,8 +41,8 @@ impl Node {
     fn commit<F: Fabric>(&mut self, fabric: &mut F, o: Outcome)
         requires { makes_node o.values ≡ true }
         ensures values { self.new.values ≡ o.values }
-        ensures marks { marks fabric.new ≡ driven (marks fabric.old) o.values.blocked o.flush }
-        ensures kept { kept fabric.new ≡ kept fabric.old }
+        ensures Marks { Marks fabric.new ≡ driven (Marks fabric.old) o.values.blocked o.flush }
+        ensures kept { F.kept fabric.new ≡ F.kept fabric.old }
     {
         drive(fabric, o.values.blocked, o.flush);
         self.write(o.values);
@@ -59,8 +59,8 @@ impl Node {
     // A new node on these settings: Start runs, and drives the fabric.
     pub fn set_up<F: Fabric>(settings: Settings, fabric: &mut F) -> Result<Node, NodeFault>
         ensures answer { SetUp settings result }
-        ensures marks { marks fabric.new ≡ (if settings_ok settings then set_up_marks settings (marks fabric.old) else marks fabric.old) }
-        ensures kept { kept fabric.new ≡ kept fabric.old }
+        ensures Marks { Marks fabric.new ≡ (if settings_ok settings then set_up_marks settings (Marks fabric.old) else Marks fabric.old) }
+        ensures kept { F.kept fabric.new ≡ F.kept fabric.old }
         ensures untouched { (e : NodeFault) → result ≡ Err e → fabric.new ≡ fabric.old }
     {
         if !settings_ok(settings) {
@@ -73,10 +73,10 @@ impl Node {
 
     // Forced switch (FS) at a port.
     pub fn force<F: Fabric>(&mut self, fabric: &mut F, port: u8) -> Result<(), NodeFault>
-        ensures answer { told_at (Some port) result ≡ (force_step self.old.values (marks fabric.old) port).answer }
-        ensures values { self.new.values ≡ (force_step self.old.values (marks fabric.old) port).values }
-        ensures marks { marks fabric.new ≡ (force_step self.old.values (marks fabric.old) port).marks }
-        ensures kept { kept fabric.new ≡ kept fabric.old }
+        ensures answer { told_at (Some port) result ≡ (force_step self.old.values (Marks fabric.old) port).answer }
+        ensures values { self.new.values ≡ (force_step self.old.values (Marks fabric.old) port).values }
+        ensures Marks { Marks fabric.new ≡ (force_step self.old.values (Marks fabric.old) port).marks }
+        ensures kept { F.kept fabric.new ≡ F.kept fabric.old }
         ensures untouched { (e : NodeFault) → result ≡ Err e → fabric.new ≡ fabric.old }
     {
         let at = admit(&self.values, fabric, port)?;
@@ -87,10 +87,10 @@ impl Node {
 
     // Manual switch (MS) at a port.
     pub fn switch<F: Fabric>(&mut self, fabric: &mut F, port: u8) -> Result<(), NodeFault>
-        ensures answer { told_at (Some port) result ≡ (manual_step self.old.values (marks fabric.old) port).answer }
-        ensures values { self.new.values ≡ (manual_step self.old.values (marks fabric.old) port).values }
-        ensures marks { marks fabric.new ≡ (manual_step self.old.values (marks fabric.old) port).marks }
-        ensures kept { kept fabric.new ≡ kept fabric.old }
+        ensures answer { told_at (Some port) result ≡ (manual_step self.old.values (Marks fabric.old) port).answer }
+        ensures values { self.new.values ≡ (manual_step self.old.values (Marks fabric.old) port).values }
+        ensures Marks { Marks fabric.new ≡ (manual_step self.old.values (Marks fabric.old) port).marks }
+        ensures kept { F.kept fabric.new ≡ F.kept fabric.old }
         ensures untouched { (e : NodeFault) → result ≡ Err e → fabric.new ≡ fabric.old }
     {
         let at = admit(&self.values, fabric, port)?;
@@ -104,10 +104,10 @@ impl Node {
 
     // Clear: ends the commands, or has a waiting owner rest.
     pub fn clear<F: Fabric>(&mut self, fabric: &mut F) -> Result<(), NodeFault>
-        ensures answer { told_at None result ≡ (clear_step self.old.values (marks fabric.old)).answer }
-        ensures values { self.new.values ≡ (clear_step self.old.values (marks fabric.old)).values }
-        ensures marks { marks fabric.new ≡ (clear_step self.old.values (marks fabric.old)).marks }
-        ensures kept { kept fabric.new ≡ kept fabric.old }
+        ensures answer { told_at None result ≡ (clear_step self.old.values (Marks fabric.old)).answer }
+        ensures values { self.new.values ≡ (clear_step self.old.values (Marks fabric.old)).values }
+        ensures Marks { Marks fabric.new ≡ (clear_step self.old.values (Marks fabric.old)).marks }
+        ensures kept { F.kept fabric.new ≡ F.kept fabric.old }
         ensures untouched { (e : NodeFault) → result ≡ Err e → fabric.new ≡ fabric.old }
     {
         check_in_step(&self.values, fabric)?;
@@ -121,10 +121,10 @@ impl Node {
 
     // A failure at a port.
     pub fn fail<F: Fabric>(&mut self, fabric: &mut F, port: u8) -> Result<(), NodeFault>
-        ensures answer { told_at (Some port) result ≡ (fail_step self.old.values (marks fabric.old) port).answer }
-        ensures values { self.new.values ≡ (fail_step self.old.values (marks fabric.old) port).values }
-        ensures marks { marks fabric.new ≡ (fail_step self.old.values (marks fabric.old) port).marks }
-        ensures kept { kept fabric.new ≡ kept fabric.old }
+        ensures answer { told_at (Some port) result ≡ (fail_step self.old.values (Marks fabric.old) port).answer }
+        ensures values { self.new.values ≡ (fail_step self.old.values (Marks fabric.old) port).values }
+        ensures Marks { Marks fabric.new ≡ (fail_step self.old.values (Marks fabric.old) port).marks }
+        ensures kept { F.kept fabric.new ≡ F.kept fabric.old }
         ensures untouched { (e : NodeFault) → result ≡ Err e → fabric.new ≡ fabric.old }
     {
         let at = admit(&self.values, fabric, port)?;
@@ -135,10 +135,10 @@ impl Node {
 
     // The repair of a port.
     pub fn repair<F: Fabric>(&mut self, fabric: &mut F, port: u8) -> Result<(), NodeFault>
-        ensures answer { told_at (Some port) result ≡ (repair_step self.old.values (marks fabric.old) port).answer }
-        ensures values { self.new.values ≡ (repair_step self.old.values (marks fabric.old) port).values }
-        ensures marks { marks fabric.new ≡ (repair_step self.old.values (marks fabric.old) port).marks }
-        ensures kept { kept fabric.new ≡ kept fabric.old }
+        ensures answer { told_at (Some port) result ≡ (repair_step self.old.values (Marks fabric.old) port).answer }
+        ensures values { self.new.values ≡ (repair_step self.old.values (Marks fabric.old) port).values }
+        ensures Marks { Marks fabric.new ≡ (repair_step self.old.values (Marks fabric.old) port).marks }
+        ensures kept { F.kept fabric.new ≡ F.kept fabric.old }
         ensures untouched { (e : NodeFault) → result ≡ Err e → fabric.new ≡ fabric.old }
     {
         let at = admit(&self.values, fabric, port)?;
@@ -149,10 +149,10 @@ impl Node {
 
     // One tick of 10 ms.
     pub fn tick<F: Fabric>(&mut self, fabric: &mut F) -> Result<(), NodeFault>
-        ensures answer { told_at None result ≡ (tick_step self.old.values (marks fabric.old)).answer }
-        ensures values { self.new.values ≡ (tick_step self.old.values (marks fabric.old)).values }
-        ensures marks { marks fabric.new ≡ (tick_step self.old.values (marks fabric.old)).marks }
-        ensures kept { kept fabric.new ≡ kept fabric.old }
+        ensures answer { told_at None result ≡ (tick_step self.old.values (Marks fabric.old)).answer }
+        ensures values { self.new.values ≡ (tick_step self.old.values (Marks fabric.old)).values }
+        ensures Marks { Marks fabric.new ≡ (tick_step self.old.values (Marks fabric.old)).marks }
+        ensures kept { F.kept fabric.new ≡ F.kept fabric.old }
         ensures untouched { (e : NodeFault) → result ≡ Err e → fabric.new ≡ fabric.old }
     {
         check_in_step(&self.values, fabric)?;
@@ -163,9 +163,9 @@ impl Node {
 
     // Start again: settings and failures stay.
     pub fn restart<F: Fabric>(&mut self, fabric: &mut F)
-        ensures values { self.new.values ≡ (restart_step self.old.values (marks fabric.old)).values }
-        ensures marks { marks fabric.new ≡ (restart_step self.old.values (marks fabric.old)).marks }
-        ensures kept { kept fabric.new ≡ kept fabric.old }
+        ensures values { self.new.values ≡ (restart_step self.old.values (Marks fabric.old)).values }
+        ensures Marks { Marks fabric.new ≡ (restart_step self.old.values (Marks fabric.old)).marks }
+        ensures kept { F.kept fabric.new ≡ F.kept fabric.old }
     {
         let o = restarted(self.values);
         self.commit(fabric, o);
@@ -178,7 +178,7 @@ impl Node {
         port: u8,
         octets: &[u8],
     ) -> Result<Message, NodeFault>
-        ensures { told_at (Some port) result ≡ question self.now.values (marks fabric.now) port octets.now }
+        ensures { told_at (Some port) result ≡ question self.now.values (Marks fabric.now) port octets.now }
     {
         admit(&self.values, fabric, port)?;
         let message = read_frame(octets, self.values.settings.channel)?;
@@ -192,10 +192,10 @@ impl Node {
         port: u8,
         message: Message,
     ) -> Result<(), NodeFault>
-        ensures answer { told_at (Some port) result ≡ (message_step self.old.values (marks fabric.old) port message).answer }
-        ensures values { self.new.values ≡ (message_step self.old.values (marks fabric.old) port message).values }
-        ensures marks { marks fabric.new ≡ (message_step self.old.values (marks fabric.old) port message).marks }
-        ensures kept { kept fabric.new ≡ kept fabric.old }
+        ensures answer { told_at (Some port) result ≡ (message_step self.old.values (Marks fabric.old) port message).answer }
+        ensures values { self.new.values ≡ (message_step self.old.values (Marks fabric.old) port message).values }
+        ensures Marks { Marks fabric.new ≡ (message_step self.old.values (Marks fabric.old) port message).marks }
+        ensures kept { F.kept fabric.new ≡ F.kept fabric.old }
         ensures untouched { (e : NodeFault) → result ≡ Err e → fabric.new ≡ fabric.old }
     {
         let at = admit(&self.values, fabric, port)?;
@@ -211,10 +211,10 @@ impl Node {
         port: u8,
         octets: &[u8],
     ) -> Result<(), NodeFault>
-        ensures answer { told_at (Some port) result ≡ (deliver_step self.old.values (marks fabric.old) port octets.now).answer }
-        ensures values { self.new.values ≡ (deliver_step self.old.values (marks fabric.old) port octets.now).values }
-        ensures marks { marks fabric.new ≡ (deliver_step self.old.values (marks fabric.old) port octets.now).marks }
-        ensures kept { kept fabric.new ≡ kept fabric.old }
+        ensures answer { told_at (Some port) result ≡ (deliver_step self.old.values (Marks fabric.old) port octets.now).answer }
+        ensures values { self.new.values ≡ (deliver_step self.old.values (Marks fabric.old) port octets.now).values }
+        ensures Marks { Marks fabric.new ≡ (deliver_step self.old.values (Marks fabric.old) port octets.now).marks }
+        ensures kept { F.kept fabric.new ≡ F.kept fabric.old }
         ensures untouched { (e : NodeFault) → result ≡ Err e → fabric.new ≡ fabric.old }
     {
         let message = self.question(fabric, port, octets)?;

@@ -7,7 +7,7 @@ use crate::types::{NodeValues, Port};
 use fabric::{Fabric, Ports};
 
 fn read_blocked<F: Fabric>(fabric: &F) -> Ports
-    ensures { result ≡ (marks fabric.now).blocked }
+    ensures { result ≡ (F.marks fabric.now).blocked }
 {
     Ports {
         p0: fabric.is_blocked(0).unwrap_or(false),
@@ -39,14 +39,14 @@ fn in_step(own: Ports, fabric: Ports) -> Result<(), NodeFault>
 
 // 9: the fabric's blocked marks are the node's.
 pub(crate) fn check_in_step<F: Fabric>(values: &NodeValues, fabric: &F) -> Result<(), NodeFault>
-    ensures { result ≡ in_step values.now.blocked (marks fabric.now).blocked }
+    ensures { result ≡ in_step values.now.blocked (F.marks fabric.now).blocked }
 {
     in_step(values.blocked, read_blocked(fabric))
 }
 
 // 8, then 9.
 pub(crate) fn admit<F: Fabric>(values: &NodeValues, fabric: &F, port: u8) -> Result<Port, NodeFault>
-    ensures { result ≡ admitted values.now (marks fabric.now) port }
+    ensures { result ≡ admitted values.now (F.marks fabric.now) port }
 {
     let port = port_of(port)?;
     check_in_step(values, fabric)?;
@@ -54,8 +54,8 @@ pub(crate) fn admit<F: Fabric>(values: &NodeValues, fabric: &F, port: u8) -> Res
 }
 
 pub(crate) fn drive<F: Fabric>(fabric: &mut F, blocked: Ports, flush: bool)
-    ensures marks { marks fabric.new ≡ driven (marks fabric.old) blocked flush }
-    ensures kept { kept fabric.new ≡ kept fabric.old }
+    ensures marks { F.marks fabric.new ≡ driven (F.marks fabric.old) blocked flush }
+    ensures kept { F.kept fabric.new ≡ F.kept fabric.old }
 {
     let _ = if blocked.p0 {
         fabric.block(0)

@@ -1,4 +1,6 @@
 // One ring switch.
+#![tactic(auto)]
+
 mod calls;
 mod check;
 mod claims;

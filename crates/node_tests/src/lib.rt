@@ -1,4 +1,6 @@
 // Examples of the node library, with expected values worked out by hand from the rules of ITU-T G.8032.
+#![tactic(auto)]
+
 #[cfg(test)]
 mod bench;
 #[cfg(test)]

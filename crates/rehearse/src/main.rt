@@ -1,4 +1,6 @@
 // Shows the parts at work: a frame of the ring, the two fabrics, then one station through failure and repair.
+#![tactic(auto)]
+
 mod fabrics;
 mod frames;
 mod station;

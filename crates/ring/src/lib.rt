@@ -1,4 +1,6 @@
 // Stations in a row that the caller owns.
+#![tactic(auto)]
+
 mod calls;
 mod delivery;
 mod distinct;

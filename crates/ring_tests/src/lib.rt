@@ -1,4 +1,5 @@
 // Examples of the ring library, worked out by hand from docs/RING.md.
+#![tactic(auto)]
 
 #[cfg(test)]
 mod tests {

@@ -1,4 +1,6 @@
 // The lines of a script and the lines that answer them.
+#![tactic(auto)]
+
 mod fabrics;
 mod frames;
 mod words;

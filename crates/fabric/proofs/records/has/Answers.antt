@@ -5,4 +5,4 @@ use Rattle.fabric.proofs.records.has.Goals as goal
 
 pub returns : goal.returns
 returns c =
-    c.is-some.ensures ∙ ap is_some c.first.ensures.value ∙ first_some (is_sought c.args.sought) 0 c.args.records.now
+    c.is_some.ensures ∙ ap is_some c.first.ensures.value ∙ first_some (is_sought c.args.sought) 0 c.args.records.now

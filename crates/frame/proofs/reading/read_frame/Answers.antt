@@ -5,12 +5,12 @@ use Rattle.frame.proofs.reading.read_frame.Goals as goal
 
 pub returns : goal.returns
 unfolding reading
-returns c = let said = (rw take_rest at c.read-pdu.ensures) c.args.frame.now refl in search rules
+returns c = let said = (rw take_rest at c.read_pdu.ensures) c.args.frame.now refl in search rules
 
-pub returns-then-frame-lt-FRAME-LENGTH : goal.returns-then-frame-lt-FRAME-LENGTH
+pub returns-then-frame-lt-FRAME_LENGTH : goal.returns-then-frame-lt-FRAME_LENGTH
 unfolding reading
-returns-then-frame-lt-FRAME-LENGTH c = search rules
+returns-then-frame-lt-FRAME_LENGTH c = search rules
 
-pub returns-in-err-check-header : goal.returns-in-err-check-header
+pub returns-in_err-check_header : goal.returns-in_err-check_header
 unfolding reading
-returns-in-err-check-header c = search rules
+returns-in_err-check_header c = search rules

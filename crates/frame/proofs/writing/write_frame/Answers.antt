@@ -7,9 +7,9 @@ use Rattle.frame.proofs.writing.write_frame.Goals as goal
 pub returns : goal.returns
 returns c =
     let n : length c.args.message.node.octets ≡ 6 = search rules in
-    let e : c.copy-from-slice.new.self ≡ frame_octets c.args.message c.args.channel c.args.mel =
-    c.copy-from-slice.ensures.after ∙ c.frame_octets.ensures in
-    let h = sym c.is-in-range.ensures ∙ c.if-not-is-in-range.false in
+    let e : c.copy_from_slice.new.self ≡ frame_octets c.args.message c.args.channel c.args.mel =
+    c.copy_from_slice.ensures.after ∙ c.frame_octets.ensures in
+    let h = sym c.is_in_range.ensures ∙ c.if-not-is_in_range.false in
     record {
       answer = search rules;
       left = search rules;

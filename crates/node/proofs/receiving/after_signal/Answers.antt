@@ -7,5 +7,5 @@ use Rattle.node.proofs.receiving.after_signal.Goals as goal
 pub returns : goal.returns
 returns c =
     let v = c.args.values in
-    let f : ltb 0 v.timers.guard ≡ false = sym c.is-guarded.ensures ∙ c.if-is-guarded.false in
-    c.flush_logic.ensures ∙ ap (λ o. flush_logic o c.args.port c.args.heard) (c.settle-o.ensures ∙ ap (settle v) c.row-of.ensures) ∙ sym (cond-false _ _ _ f)
+    let f : ltb 0 v.timers.guard ≡ false = sym c.is_guarded.ensures ∙ c.if-is_guarded.false in
+    c.flush_logic.ensures ∙ ap (λ o. flush_logic o c.args.port c.args.heard) (c.settle-o.ensures ∙ ap (settle v) c.row_of.ensures) ∙ sym (cond-false _ _ _ f)

@@ -7,9 +7,9 @@ pub returns : goal.returns
 returns c =
     let w = c.args.self.now.word in
     let p = c.args.port in
-    let e = c.mark-blocked.ensures.exact in
+    let e = c.mark_blocked.ensures.exact in
     record {
-      answer = c.mark-blocked.ensures.answer;
+      answer = c.mark_blocked.ensures.answer;
       after = ap word_marks e ∙ marks_blocked w p false;
       same = ap host_bits e ∙ host_blocked w p false;
       exact = e;

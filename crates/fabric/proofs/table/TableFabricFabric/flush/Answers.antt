@@ -8,9 +8,9 @@ use Rattle.fabric.proofs.table.TableFabricFabric.flush.Goals as goal
 pub returns : goal.returns
 returns c =
     let rs = c.args.self.now.records in
-    let e = c.free-ring.ensures in
+    let e = c.free_ring.ensures in
     record {
-      after = marks_freed c.args.self.now c.free-ring.new.records e;
+      after = marks_freed c.args.self.now c.free_ring.new.records e;
       same = ap (map off_ring_octets) e ∙ kept_freed rs;
       records = e;
       blocks = refl;

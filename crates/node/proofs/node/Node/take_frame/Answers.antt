@@ -31,10 +31,10 @@ pub returns : goal.returns
 returns c =
     let v = c.args.self.now.values in
     let d = due_some v c.in-Some.message c.in-Some.ensures in
-    let w = writes v c.in-Some.message c.args.buffer.now c.args.self.now.settings d.1 c.if-buffer-lt-FRAME-LENGTH.false in
-    let short : ltb (length c.args.buffer.now) 55 ≡ false = le-ltb _ _ c.if-buffer-lt-FRAME-LENGTH.false in
+    let w = writes v c.in-Some.message c.args.buffer.now c.args.self.now.settings d.1 c.if-buffer-lt-FRAME_LENGTH.false in
+    let short : ltb (length c.args.buffer.now) 55 ≡ false = le-ltb _ _ c.if-buffer-lt-FRAME_LENGTH.false in
     record {
       answer = sym (cond-false _ _ _ short ∙ cond-true _ _ _ d.0);
       values = c.write.ensures ∙ c.frame_taken.ensures ∙ sym (cond-false _ _ _ short ∙ cond-true _ _ _ d.0);
-      left = c.write-frame.ensures.left ∙ w.1 ∙ ap (λ o. octets_of v o c.args.buffer.now) c.in-Some.ensures ∙ sym (cond-false _ _ _ short);
+      left = c.write_frame.ensures.left ∙ w.1 ∙ ap (λ o. octets_of v o c.args.buffer.now) c.in-Some.ensures ∙ sym (cond-false _ _ _ short);
     }
