@@ -1,24 +1,22 @@
 -- Each action part of the rows keeps the rules. Assumes nothing.
-use Rattle.std.proofs.Common.{◌≡◌, Bool, true, false, cond, not, ◌&&◌, ◌||◌, leb, is_some, Some, None, refl, arith}
+use Rattle.std.proofs.Common.{◌≡◌, true, false, ◌&&◌, is_some, refl, arith}
 use Rattle.std.proofs.lemmas.Bool.{and_parts, and_from, or_right}
 use Rattle.fabric.specs.declared.types.Ports.{Ports}
-use Rattle.frame.specs.declared.types.Request.{Request}
 use Rattle.node.specs.declared.types.NodeValues.{NodeValues}
 use Rattle.node.specs.declared.types.Outcome.{Outcome}
 use Rattle.node.specs.declared.types.Port.{Port}
 use Rattle.node.specs.declared.types.Port.TheVariants.{Zero, One}
-use Rattle.node.specs.declared.types.Role.{Role}
 use Rattle.node.specs.declared.types.State.{State}
 use Rattle.node.specs.declared.types.State.TheVariants.{Idle, Protection, Pending}
 use Rattle.node.specs.declared.types.State.TheVariants.{ManualSwitch as Manual, ForcedSwitch as Forced}
 use Rattle.node.specs.declared.types.Timers.{Timers}
 use Rattle.node.specs.Names.{by_state, is_owner, is_other}
-use Rattle.node.specs.Ports.{none, only, at, with_mark, some, within, meet, same, implies}
-use Rattle.node.specs.Rows.{seize_failed, force_new, force_more, manual_row, rest, release, yield_to, pend, present, open_both, to_idle, moved, no_commands, quiet_unless_owner, clear_fail}
-use Rattle.node.specs.Rules.{settings_ok, timers_ok, idle_ports}
-use Rattle.node.proofs.Lawful.{Sound, Failed, Forcing, Speaks, Runs, Rests}
-use Rattle.node.proofs.Split.{in_cond, in_state}
-use Rattle.node.proofs.Timing.{stopped_ok, wtr_ok, wtb_ok, pend_ok, guard_ok}
+use Rattle.node.specs.Ports.{with_mark, some, within}
+use Rattle.node.specs.Rows.{seize_failed, force_new, force_more, manual_row, rest, release, yield_to, pend, present, open_both, clear_fail}
+use Rattle.node.specs.Rules.{settings_ok, timers_ok}
+use Rattle.node.proofs.Lawful.{Sound, Runs}
+use Rattle.node.proofs.Split.{in_cond}
+use Rattle.node.proofs.Timing.{stopped_ok, wtr_ok, wtb_ok}
 
 within_self : (f : Ports) → within f f ≡ true
 within_self f = grind arith

@@ -1,13 +1,12 @@
 -- Bursts, ticks, Start and frames keep the rules. Assumes nothing.
-use Rattle.std.proofs.Common.{◌≡◌, ℕ, ◌≤◌, Bool, true, false, cond, ltb, leb, List, ◌++◌, length, drop, Some, None, Option, refl, ◌∙◌, arith}
+use Rattle.std.proofs.Common.{◌≡◌, ℕ, ◌≤◌, true, false, cond, ltb, leb, List, ◌++◌, length, drop, Some, None, Option, refl, ◌∙◌, arith}
 use Rattle.std.proofs.lemmas.Bool.{and_parts, and_from, le-ltb, le-leb, cond-true, cond-false}
-use Rattle.frame.specs.Refusals.{Refusal, Answer, gave, refused}
+use Rattle.frame.specs.Refusals.{Refusal, gave, refused}
 use Rattle.frame.specs.Writing.{in_range, writing, written, frame_octets}
 use Rattle.frame.specs.declared.types.Message.{Message}
 use Rattle.std.proofs.lemmas.Bool.Decides.{nat_tests}
 use Rattle.fabric.specs.declared.types.Ports.{Ports}
 use Rattle.frame.specs.declared.types.Request.{Request}
-use Rattle.frame.specs.declared.types.Request.TheVariants.{NoRequest}
 use Rattle.node.specs.declared.types.NodeValues.{NodeValues}
 use Rattle.node.specs.declared.types.Settings.{Settings}
 use Rattle.node.specs.Calls.{due_message}
@@ -15,7 +14,7 @@ use Rattle.node.specs.Names.{is_sending}
 use Rattle.node.specs.Ports.{none, some}
 use Rattle.node.specs.Rows.{present}
 use Rattle.node.specs.Rules.{makes_node, settings_ok, due_ok}
-use Rattle.node.specs.Settling.{lowered, started, restarted, with_due, fresh_due, is_due, frame_taken}
+use Rattle.node.specs.Settling.{lowered, started, restarted, is_due, frame_taken}
 use Rattle.node.proofs.Actions.{present_sound}
 use Rattle.node.proofs.Lawful.{Sound, Bursts, all_rules}
 use Rattle.node.proofs.Timing.{start_ok}

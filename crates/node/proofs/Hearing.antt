@@ -1,9 +1,8 @@
 -- Each row of a received message keeps the rules. Assumes nothing.
-use Rattle.std.proofs.Common.{◌≡◌, ℕ, suc, ◌<◌, ◌≤◌, max, Bool, true, false, cond, not, ◌&&◌, ◌||◌, eqb, ltb, leb, List, [], ◌∷◌, is_some, Some, None, Option, sym, refl, ap, ◌∙◌, arith, lit≤}
-use Rattle.std.proofs.lemmas.Bool.Decides.{nat_tests}
+use Rattle.std.proofs.Common.{◌≡◌, ℕ, suc, ◌≤◌, max, Bool, true, false, cond, not, ◌&&◌, eqb, ltb, [], ◌∷◌, is_some, Some, None, Option, sym, refl, ◌∙◌, arith, lit≤}
 use Rattle.std.proofs.lemmas.Bool.{and_parts, not-true, eqb-true}
 use Rattle.std.specs.Option.{option_map}
-use Rattle.frame.specs.Highest.{first_highest, first_with, highest_rank}
+use Rattle.frame.specs.Highest.{first_highest, highest_rank}
 use Rattle.frame.specs.declared.types.Body.{Body}
 use Rattle.frame.specs.declared.types.Body.TheVariants.{Event, Signal}
 use Rattle.frame.specs.declared.types.Message.{Message}
@@ -13,7 +12,6 @@ use Rattle.frame.specs.declared.types.Request.TheVariants.{NoRequest, RplBlocked
 use Rattle.node.specs.declared.claims.Claim.{Claim}
 use Rattle.node.specs.declared.claims.Claim.TheVariants.{LocalFail, WtrRunning, WtbRunning}
 use Rattle.node.specs.declared.claims.Claim.TheVariants.{Forced as ForcingClaim, Manual as ManualClaim}
-use Rattle.node.specs.declared.claims.Slot.{Slot}
 use Rattle.node.specs.declared.types.Heard.{Heard}
 use Rattle.node.specs.declared.types.NodeValues.{NodeValues}
 use Rattle.node.specs.declared.types.Outcome.{Outcome}
@@ -28,10 +26,10 @@ use Rattle.node.specs.declared.types.Timers.{Timers}
 use Rattle.node.specs.Claims.{claim_of, claim_rank, slot_rank, slot_if, standing, is_first, reaches, fail_stands}
 use Rattle.node.specs.Names.{by_state, is_owner, is_other}
 use Rattle.node.specs.Ports.{some, implies, meet}
-use Rattle.node.specs.Receiving.{is_own, is_foreign_rb, noted, reaches_row, row_of, flush_logic, after_body, after_message}
-use Rattle.node.specs.Rows.{heard_forced, heard_fail, heard_manual, heard_rpl_blocked, heard_no_request, heard_row, higher, pend, present, yield_to, release, to_idle, moved, no_commands, quiet_unless_owner, await_wtr, await_wtb}
+use Rattle.node.specs.Receiving.{is_own, noted, reaches_row, row_of, flush_logic, after_body, after_message}
+use Rattle.node.specs.Rows.{heard_forced, heard_fail, heard_manual, heard_rpl_blocked, heard_no_request, heard_row, higher, pend, present, yield_to, to_idle, no_commands, quiet_unless_owner, await_wtr, await_wtb}
 use Rattle.node.specs.Rules.{makes_node, idle_ports, settings_ok, failed_ok, sending_ok, timers_ok, idle_ok}
-use Rattle.node.specs.Settling.{settle, settled}
+use Rattle.node.specs.Settling.{settle}
 use Rattle.node.proofs.Actions.{Free, hear_force_sound, yield_sound, release_sound, pend_sound, present_sound}
 use Rattle.node.proofs.Keeps.{Keeps, none_failed}
 use Rattle.node.proofs.Lawful.{Sound, Failed, Forcing, Speaks, Runs, Rests, Bursts, owed, all_rules}

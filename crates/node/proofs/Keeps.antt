@@ -1,22 +1,20 @@
 -- Each row keeps the rules. Assumes nothing.
-use Rattle.std.proofs.Common.{◌≡◌, Bool, true, false, cond, not, ◌&&◌, ◌||◌, is_some, refl, arith}
+use Rattle.std.proofs.Common.{◌≡◌, true, false, refl, arith}
 use Rattle.std.proofs.lemmas.Bool.Decides.{nat_tests}
 use Rattle.fabric.specs.declared.types.Ports.{Ports}
-use Rattle.frame.specs.declared.types.NodeId.{NodeId}
 use Rattle.node.specs.declared.types.NodeValues.{NodeValues}
 use Rattle.node.specs.declared.types.Outcome.{Outcome}
 use Rattle.node.specs.declared.types.Port.{Port}
-use Rattle.node.specs.declared.types.State.{State}
-use Rattle.node.specs.declared.types.State.TheVariants.{Idle, Protection, Pending}
+use Rattle.node.specs.declared.types.State.TheVariants.{Protection, Pending}
 use Rattle.node.specs.declared.types.State.TheVariants.{ManualSwitch as Manual, ForcedSwitch as Forced}
 use Rattle.node.specs.Calls.{takes_clear, takes_manual}
-use Rattle.node.specs.Names.{by_state, is_owner, is_other}
-use Rattle.node.specs.Ports.{at, with_mark, some, within}
-use Rattle.node.specs.Rows.{force_row, manual_row, fail_row, newly_failed, repair_row, repaired, clear_row, with_failed, release, rest, still, seize_failed, clear_fail, present}
+use Rattle.node.specs.Names.{by_state, is_owner}
+use Rattle.node.specs.Ports.{at, with_mark, some}
+use Rattle.node.specs.Rows.{force_row, manual_row, fail_row, newly_failed, repair_row, clear_row, with_failed, release}
 use Rattle.node.specs.Rules.{settings_ok}
 use Rattle.node.specs.Settling.{lowered, tick_row, expires}
 use Rattle.node.proofs.Actions.{force_new_sound, force_more_sound, manual_sound, rest_sound, release_sound, seize_failed_sound, clear_fail_sound, present_sound, some_marked}
-use Rattle.node.proofs.Lawful.{Sound, Failed, Forcing, Speaks, Runs, Rests}
+use Rattle.node.proofs.Lawful.{Sound, Failed, Forcing, Runs}
 use Rattle.node.proofs.Split.{in_state, in_cond}
 use Rattle.node.proofs.Timing.{wtb_ok, lowered_ok, pend_ok}
 

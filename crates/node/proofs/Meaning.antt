@@ -1,7 +1,7 @@
 -- The laws of the calls. Assumes nothing.
-use Rattle.std.proofs.Common.{◌≡◌, ℕ, ◌≤◌, max, Bool, true, false, cond, not, ◌&&◌, ◌||◌, eqb, ltb, List, [], ◌∷◌, is_some, Some, None, Option, sym, refl, ap, ◌∙◌, arith, lit≤}
+use Rattle.std.proofs.Common.{◌≡◌, ℕ, ◌≤◌, max, Bool, true, false, cond, not, ◌&&◌, ◌||◌, eqb, ltb, List, [], ◌∷◌, is_some, Some, Option, sym, refl, ap, ◌∙◌, arith, lit≤}
 use Rattle.std.proofs.lemmas.Bool.Decides.{nat_tests}
-use Rattle.std.proofs.lemmas.Bool.{and_parts, not-true, both_ways, eq-eqb}
+use Rattle.std.proofs.lemmas.Bool.{and_parts, both_ways, eq-eqb}
 use Rattle.frame.specs.Highest.{first_highest, highest_rank}
 use Rattle.fabric.specs.declared.types.Ports.{Ports}
 use Rattle.frame.specs.declared.types.Body.{Body}
@@ -25,16 +25,15 @@ use Rattle.node.specs.declared.types.Settings.{Settings}
 use Rattle.node.specs.declared.types.State.{State}
 use Rattle.node.specs.declared.types.State.TheVariants.{Idle, Protection, Pending}
 use Rattle.node.specs.declared.types.State.TheVariants.{ManualSwitch as Manual, ForcedSwitch as Forced}
-use Rattle.node.specs.Calls.{Call, forced, switched, failed, repaired, cleared, ticked, restarts, takes_frame, heard, outcome, takes_clear, takes_manual}
+use Rattle.node.specs.Calls.{Call, forced, switched, failed, repaired, cleared, ticked, restarts, takes_frame, heard, takes_manual}
 use Rattle.node.specs.Claims.{claim_of, claim_rank, slot_rank, slot_if, standing, fail_stands, is_first, reaches}
-use Rattle.node.specs.Laws.{after, MayBeTaken, is_heard, RulesKept, KeepsABlock, OwnMovesNoPort, EventChangesNoValue, FailedMarks, ForcedMarks, Promised, RulesPromise, body_sets, sets_mark, MarkLaw, LocalReaches, SettingsKept, IdleYields, named_port}
+use Rattle.node.specs.Laws.{after, MayBeTaken, is_heard, RulesKept, KeepsABlock, OwnMovesNoPort, EventChangesNoValue, FailedMarks, ForcedMarks, RulesPromise, body_sets, MarkLaw, LocalReaches, SettingsKept, IdleYields, named_port}
 use Rattle.node.specs.Names.{by_state, is_owner, is_other, is_sending}
-use Rattle.node.specs.Ports.{none, only, at, with_mark, some, meet, bpr_of, same, within}
-use Rattle.node.specs.Receiving.{is_own, is_rpl_blocked, is_foreign_rb, noted, reaches_row, row_of, flush_logic, after_signal, after_body, after_message}
-use Rattle.node.specs.Rows.{force_row, manual_row, fail_row, newly_failed, repair_row, repaired as repaired_row, clear_row, seize_failed, clear_fail, release, present, rest, heard_row, heard_forced, heard_fail, heard_manual, heard_rpl_blocked, heard_no_request, with_failed, to_idle, higher, pend, await_wtb, await_wtr, yield_to, still}
-use Rattle.node.specs.Rules.{makes_node, idle_ports, settings_ok}
-use Rattle.node.specs.Settling.{settle, lowered, tick_row, restarted, started, expires, is_due, frame_taken, with_pairs}
-use Rattle.node.proofs.Actions.{Free}
+use Rattle.node.specs.Ports.{none, only, at, with_mark, some, meet, same}
+use Rattle.node.specs.Receiving.{is_own, noted, reaches_row, row_of, flush_logic, after_body, after_message}
+use Rattle.node.specs.Rows.{force_row, manual_row, fail_row, repair_row, clear_row, release, present, heard_row, to_idle, higher, pend, await_wtb, still}
+use Rattle.node.specs.Rules.{makes_node, idle_ports}
+use Rattle.node.specs.Settling.{settle, lowered, tick_row, restarted, started, expires, frame_taken, with_pairs}
 use Rattle.node.proofs.Frames.{lowered_burst, started_keeps, restart_keeps, frame_burst}
 use Rattle.node.proofs.Hearing.{message_keeps, free_of}
 use Rattle.node.proofs.Keeps.{waits, force_keeps, manual_keeps, fail_keeps, repair_keeps, clear_keeps, tick_keeps}

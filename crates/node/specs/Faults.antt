@@ -1,5 +1,5 @@
 -- The refusals of a node. Assumes nothing.
-use Rattle.std.specs.Prelude.{ℕ, Some, None, Ok, Err, Option, Result}
+use Rattle.std.specs.Prelude.{ℕ, Ok, Err, Option, Result}
 use Rattle.frame.specs.Faults.{refusal}
 use Rattle.frame.specs.Refusals.{Refusal, Answer, gave, refused, by_node, at_port, nowhere}
 use Rattle.node.specs.declared.faults.NodeFault.{NodeFault}

@@ -1,5 +1,5 @@
 -- Receiving a message: guard, own ID, mismatch mark, row, flush logic. Assumes nothing.
-use Rattle.std.specs.Prelude.{ℕ, Bool, true, false, cond, not, ◌&&◌, ◌||◌, ◌==◌, nat_lt}
+use Rattle.std.specs.Prelude.{Bool, true, false, cond, not, ◌&&◌, ◌||◌, ◌==◌, nat_lt}
 use Rattle.std.specs.Bool.{beq}
 use Rattle.frame.specs.Ids.{id_number}
 use Rattle.frame.specs.declared.types.Body.{Body}

@@ -1,6 +1,6 @@
 -- Table 10-2 of ITU-T G.8032: its action parts, then its rows, by request and state; marks and commands go with them.
 -- Assumes nothing.
-use Rattle.std.specs.Prelude.{ℕ, ◌-◌, Bool, true, false, cond, not, ◌&&◌, ◌||◌, Some, None, Option, nat_lt}
+use Rattle.std.specs.Prelude.{ℕ, Bool, true, false, cond, not, ◌&&◌, Some, None, nat_lt}
 use Rattle.fabric.specs.declared.types.Ports.{Ports}
 use Rattle.frame.specs.Ids.{id_number}
 use Rattle.frame.specs.declared.types.NodeId.{NodeId}

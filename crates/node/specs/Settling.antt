@@ -1,5 +1,5 @@
 -- What every call owes after its rows: the burst, and the flush pairs. Assumes nothing.
-use Rattle.std.specs.Prelude.{ℕ, ◌-◌, Bool, true, false, cond, not, ◌&&◌, ◌||◌, [], ◌∷◌, Some, None, Option, ◌==◌, nat_lt}
+use Rattle.std.specs.Prelude.{◌-◌, Bool, false, cond, not, ◌&&◌, ◌||◌, [], ◌∷◌, Some, Option, ◌==◌, nat_lt}
 use Rattle.std.specs.Bool.{beq}
 use Rattle.fabric.specs.declared.types.Ports.{Ports}
 use Rattle.frame.specs.declared.types.NodeId.{NodeId}
@@ -16,7 +16,7 @@ use Rattle.node.specs.declared.types.Settings.{Settings}
 use Rattle.node.specs.declared.types.State.TheVariants.{Pending}
 use Rattle.node.specs.declared.types.Timers.{Timers}
 use Rattle.node.specs.Names.{is_owner, is_sending, sent_number, burst_start, wait_start, wtr_start}
-use Rattle.node.specs.Ports.{none, only, bpr_of}
+use Rattle.node.specs.Ports.{only, bpr_of}
 use Rattle.node.specs.Rows.{gives, still, no_commands, send, present, rest}
 
 -- the message sent, with its DNF and BPR, is the same

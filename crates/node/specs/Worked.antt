@@ -1,7 +1,6 @@
 -- Worked examples of one node. Assumes nothing.
-use Rattle.std.specs.Prelude.{◌≡◌, ℕ, zero, suc, Bool, true, false, [], ◌∷◌}
+use Rattle.std.specs.Prelude.{◌≡◌, ℕ, zero, suc, true, false, [], ◌∷◌}
 use Rattle.frame.specs.declared.types.Body.TheVariants.{Signal}
-use Rattle.frame.specs.declared.types.Channel.{Channel}
 use Rattle.frame.specs.declared.types.Message.{Message}
 use Rattle.frame.specs.declared.types.NodeId.{NodeId}
 use Rattle.frame.specs.declared.types.Request.TheVariants.{NoRequest, RplBlocked, SignalFail, ForcedSwitch}

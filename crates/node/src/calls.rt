@@ -41,7 +41,7 @@ impl Node {
     fn commit<F: Fabric>(&mut self, fabric: &mut F, o: Outcome)
         requires { makes_node o.values ≡ true }
         ensures values { self.new.values ≡ o.values }
-        ensures Marks { Marks fabric.new ≡ driven (Marks fabric.old) o.values.blocked o.flush }
+        ensures marks { F.marks fabric.new ≡ driven (F.marks fabric.old) o.values.blocked o.flush }
         ensures kept { F.kept fabric.new ≡ F.kept fabric.old }
     {
         drive(fabric, o.values.blocked, o.flush);
@@ -59,7 +59,7 @@ impl Node {
     // A new node on these settings: Start runs, and drives the fabric.
     pub fn set_up<F: Fabric>(settings: Settings, fabric: &mut F) -> Result<Node, NodeFault>
         ensures answer { SetUp settings result }
-        ensures Marks { Marks fabric.new ≡ (if settings_ok settings then set_up_marks settings (Marks fabric.old) else Marks fabric.old) }
+        ensures marks { F.marks fabric.new ≡ (if settings_ok settings then set_up_marks settings (F.marks fabric.old) else F.marks fabric.old) }
         ensures kept { F.kept fabric.new ≡ F.kept fabric.old }
         ensures untouched { (e : NodeFault) → result ≡ Err e → fabric.new ≡ fabric.old }
     {
@@ -73,9 +73,9 @@ impl Node {
 
     // Forced switch (FS) at a port.
     pub fn force<F: Fabric>(&mut self, fabric: &mut F, port: u8) -> Result<(), NodeFault>
-        ensures answer { told_at (Some port) result ≡ (force_step self.old.values (Marks fabric.old) port).answer }
-        ensures values { self.new.values ≡ (force_step self.old.values (Marks fabric.old) port).values }
-        ensures Marks { Marks fabric.new ≡ (force_step self.old.values (Marks fabric.old) port).marks }
+        ensures answer { told_at (Some port) result ≡ (force_step self.old.values (F.marks fabric.old) port).answer }
+        ensures values { self.new.values ≡ (force_step self.old.values (F.marks fabric.old) port).values }
+        ensures marks { F.marks fabric.new ≡ (force_step self.old.values (F.marks fabric.old) port).marks }
         ensures kept { F.kept fabric.new ≡ F.kept fabric.old }
         ensures untouched { (e : NodeFault) → result ≡ Err e → fabric.new ≡ fabric.old }
     {
@@ -87,9 +87,9 @@ impl Node {
 
     // Manual switch (MS) at a port.
     pub fn switch<F: Fabric>(&mut self, fabric: &mut F, port: u8) -> Result<(), NodeFault>
-        ensures answer { told_at (Some port) result ≡ (manual_step self.old.values (Marks fabric.old) port).answer }
-        ensures values { self.new.values ≡ (manual_step self.old.values (Marks fabric.old) port).values }
-        ensures Marks { Marks fabric.new ≡ (manual_step self.old.values (Marks fabric.old) port).marks }
+        ensures answer { told_at (Some port) result ≡ (manual_step self.old.values (F.marks fabric.old) port).answer }
+        ensures values { self.new.values ≡ (manual_step self.old.values (F.marks fabric.old) port).values }
+        ensures marks { F.marks fabric.new ≡ (manual_step self.old.values (F.marks fabric.old) port).marks }
         ensures kept { F.kept fabric.new ≡ F.kept fabric.old }
         ensures untouched { (e : NodeFault) → result ≡ Err e → fabric.new ≡ fabric.old }
     {
@@ -104,9 +104,9 @@ impl Node {
 
     // Clear: ends the commands, or has a waiting owner rest.
     pub fn clear<F: Fabric>(&mut self, fabric: &mut F) -> Result<(), NodeFault>
-        ensures answer { told_at None result ≡ (clear_step self.old.values (Marks fabric.old)).answer }
-        ensures values { self.new.values ≡ (clear_step self.old.values (Marks fabric.old)).values }
-        ensures Marks { Marks fabric.new ≡ (clear_step self.old.values (Marks fabric.old)).marks }
+        ensures answer { told_at None result ≡ (clear_step self.old.values (F.marks fabric.old)).answer }
+        ensures values { self.new.values ≡ (clear_step self.old.values (F.marks fabric.old)).values }
+        ensures marks { F.marks fabric.new ≡ (clear_step self.old.values (F.marks fabric.old)).marks }
         ensures kept { F.kept fabric.new ≡ F.kept fabric.old }
         ensures untouched { (e : NodeFault) → result ≡ Err e → fabric.new ≡ fabric.old }
     {
@@ -121,9 +121,9 @@ impl Node {
 
     // A failure at a port.
     pub fn fail<F: Fabric>(&mut self, fabric: &mut F, port: u8) -> Result<(), NodeFault>
-        ensures answer { told_at (Some port) result ≡ (fail_step self.old.values (Marks fabric.old) port).answer }
-        ensures values { self.new.values ≡ (fail_step self.old.values (Marks fabric.old) port).values }
-        ensures Marks { Marks fabric.new ≡ (fail_step self.old.values (Marks fabric.old) port).marks }
+        ensures answer { told_at (Some port) result ≡ (fail_step self.old.values (F.marks fabric.old) port).answer }
+        ensures values { self.new.values ≡ (fail_step self.old.values (F.marks fabric.old) port).values }
+        ensures marks { F.marks fabric.new ≡ (fail_step self.old.values (F.marks fabric.old) port).marks }
         ensures kept { F.kept fabric.new ≡ F.kept fabric.old }
         ensures untouched { (e : NodeFault) → result ≡ Err e → fabric.new ≡ fabric.old }
     {
@@ -135,9 +135,9 @@ impl Node {
 
     // The repair of a port.
     pub fn repair<F: Fabric>(&mut self, fabric: &mut F, port: u8) -> Result<(), NodeFault>
-        ensures answer { told_at (Some port) result ≡ (repair_step self.old.values (Marks fabric.old) port).answer }
-        ensures values { self.new.values ≡ (repair_step self.old.values (Marks fabric.old) port).values }
-        ensures Marks { Marks fabric.new ≡ (repair_step self.old.values (Marks fabric.old) port).marks }
+        ensures answer { told_at (Some port) result ≡ (repair_step self.old.values (F.marks fabric.old) port).answer }
+        ensures values { self.new.values ≡ (repair_step self.old.values (F.marks fabric.old) port).values }
+        ensures marks { F.marks fabric.new ≡ (repair_step self.old.values (F.marks fabric.old) port).marks }
         ensures kept { F.kept fabric.new ≡ F.kept fabric.old }
         ensures untouched { (e : NodeFault) → result ≡ Err e → fabric.new ≡ fabric.old }
     {
@@ -149,9 +149,9 @@ impl Node {
 
     // One tick of 10 ms.
     pub fn tick<F: Fabric>(&mut self, fabric: &mut F) -> Result<(), NodeFault>
-        ensures answer { told_at None result ≡ (tick_step self.old.values (Marks fabric.old)).answer }
-        ensures values { self.new.values ≡ (tick_step self.old.values (Marks fabric.old)).values }
-        ensures Marks { Marks fabric.new ≡ (tick_step self.old.values (Marks fabric.old)).marks }
+        ensures answer { told_at None result ≡ (tick_step self.old.values (F.marks fabric.old)).answer }
+        ensures values { self.new.values ≡ (tick_step self.old.values (F.marks fabric.old)).values }
+        ensures marks { F.marks fabric.new ≡ (tick_step self.old.values (F.marks fabric.old)).marks }
         ensures kept { F.kept fabric.new ≡ F.kept fabric.old }
         ensures untouched { (e : NodeFault) → result ≡ Err e → fabric.new ≡ fabric.old }
     {
@@ -163,8 +163,8 @@ impl Node {
 
     // Start again: settings and failures stay.
     pub fn restart<F: Fabric>(&mut self, fabric: &mut F)
-        ensures values { self.new.values ≡ (restart_step self.old.values (Marks fabric.old)).values }
-        ensures Marks { Marks fabric.new ≡ (restart_step self.old.values (Marks fabric.old)).marks }
+        ensures values { self.new.values ≡ (restart_step self.old.values (F.marks fabric.old)).values }
+        ensures marks { F.marks fabric.new ≡ (restart_step self.old.values (F.marks fabric.old)).marks }
         ensures kept { F.kept fabric.new ≡ F.kept fabric.old }
     {
         let o = restarted(self.values);
@@ -178,7 +178,7 @@ impl Node {
         port: u8,
         octets: &[u8],
     ) -> Result<Message, NodeFault>
-        ensures { told_at (Some port) result ≡ question self.now.values (Marks fabric.now) port octets.now }
+        ensures { told_at (Some port) result ≡ question self.now.values (F.marks fabric.now) port octets.now }
     {
         admit(&self.values, fabric, port)?;
         let message = read_frame(octets, self.values.settings.channel)?;
@@ -192,9 +192,9 @@ impl Node {
         port: u8,
         message: Message,
     ) -> Result<(), NodeFault>
-        ensures answer { told_at (Some port) result ≡ (message_step self.old.values (Marks fabric.old) port message).answer }
-        ensures values { self.new.values ≡ (message_step self.old.values (Marks fabric.old) port message).values }
-        ensures Marks { Marks fabric.new ≡ (message_step self.old.values (Marks fabric.old) port message).marks }
+        ensures answer { told_at (Some port) result ≡ (message_step self.old.values (F.marks fabric.old) port message).answer }
+        ensures values { self.new.values ≡ (message_step self.old.values (F.marks fabric.old) port message).values }
+        ensures marks { F.marks fabric.new ≡ (message_step self.old.values (F.marks fabric.old) port message).marks }
         ensures kept { F.kept fabric.new ≡ F.kept fabric.old }
         ensures untouched { (e : NodeFault) → result ≡ Err e → fabric.new ≡ fabric.old }
     {
@@ -211,9 +211,9 @@ impl Node {
         port: u8,
         octets: &[u8],
     ) -> Result<(), NodeFault>
-        ensures answer { told_at (Some port) result ≡ (deliver_step self.old.values (Marks fabric.old) port octets.now).answer }
-        ensures values { self.new.values ≡ (deliver_step self.old.values (Marks fabric.old) port octets.now).values }
-        ensures Marks { Marks fabric.new ≡ (deliver_step self.old.values (Marks fabric.old) port octets.now).marks }
+        ensures answer { told_at (Some port) result ≡ (deliver_step self.old.values (F.marks fabric.old) port octets.now).answer }
+        ensures values { self.new.values ≡ (deliver_step self.old.values (F.marks fabric.old) port octets.now).values }
+        ensures marks { F.marks fabric.new ≡ (deliver_step self.old.values (F.marks fabric.old) port octets.now).marks }
         ensures kept { F.kept fabric.new ≡ F.kept fabric.old }
         ensures untouched { (e : NodeFault) → result ≡ Err e → fabric.new ≡ fabric.old }
     {

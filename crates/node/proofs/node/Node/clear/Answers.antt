@@ -8,4 +8,4 @@ pub commit-requires : goal.commit-requires
 commit-requires g c =
     let n = c.args.self.now in
     rw (c.settle-o.ensures, c.clear_row.ensures)
-    (owed n.values (clear_row n.values).values n.burst (clear_keeps n.values (sym c.takes_clear.ensures ∙ c.if-not-takes-clear.false) (of_node n)))
+    (owed n.values (clear_row n.values).values n.burst (clear_keeps n.values (sym c.takes_clear.ensures ∙ c.if-not-takes_clear.false) (of_node n)))

@@ -2,8 +2,8 @@ use Rattle.std.proofs.Common.{sym, ◌∙◌}
 use Rattle.node.proofs.Lawful.{parts}
 use Rattle.node.proofs.node.Node.from_values.Goals as goal
 
-pub invariant-of-result : goal.invariant-of-result
-invariant-of-result c =
-    let p = parts c.args.values (sym c.makes_node.ensures ∙ c.if-makes-node.true) in
+pub invariant_of-result : goal.invariant_of-result
+invariant_of-result c =
+    let p = parts c.args.values (sym c.makes_node.ensures ∙ c.if-makes_node.true) in
     let s = p.sound in
-    (s.settings, (s.failed, (s.forced, (s.sending, (p.burst, (s.timers, (s.idle, tt)))))))
+    record { settings = s.settings; failed = s.failed; forced = s.forced; sending = s.sending; burst = p.burst; timers = s.timers; idle = s.idle }

@@ -7,6 +7,6 @@ use Rattle.node.proofs.node.Node.switch.Goals as goal
 pub commit-requires : goal.commit-requires
 commit-requires g c =
     let n = c.args.self.now in
-    let p = c.in-ok-at.at in
+    let p = c.in_ok-at.at in
     rw (c.settle-o.ensures, c.manual_row.ensures)
-    (owed n.values (manual_row n.values p).values n.burst (manual_keeps n.values p (sym c.takes_manual.ensures ∙ c.if-not-takes-manual.false) (of_node n)))
+    (owed n.values (manual_row n.values p).values n.burst (manual_keeps n.values p (sym c.takes_manual.ensures ∙ c.if-not-takes_manual.false) (of_node n)))

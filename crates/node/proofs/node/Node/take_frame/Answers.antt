@@ -7,15 +7,15 @@ use Rattle.node.specs.Calls.{octets_of}
 use Rattle.node.specs.Settling.{frame_taken}
 use Rattle.node.proofs.node.Node.take_frame.Goals as goal
 
-pub returns-in-default : goal.returns-in-default
-returns-in-default c = let d = due_none c.args.self.now.values c.in-default.ensures in search rules
+pub returns-in_default : goal.returns-in_default
+returns-in_default c = let d = due_none c.args.self.now.values c.in_default.ensures in search rules
 
-pub returns-in-err-write-frame : goal.returns-in-err-write-frame
-returns-in-err-write-frame c =
+pub returns-in_err-write_frame : goal.returns-in_err-write_frame
+returns-in_err-write_frame c =
     let v = c.args.self.now.values in
     let d = due_some v c.in-Some.message c.in-Some.ensures in
-    let w = writes v c.in-Some.message c.args.buffer.now c.args.self.now.settings d.1 c.if-buffer-lt-FRAME-LENGTH.false in
-    absurd (never_refused _ _ (sym (ap told c.in-err-write-frame.was) ∙ c.write-frame.ensures.answer ∙ w.0))
+    let w = writes v c.in-Some.message c.args.buffer.now c.args.self.now.settings d.1 c.if-buffer-lt-FRAME_LENGTH.false in
+    absurd (never_refused _ _ (sym (ap told c.in_err-write_frame.was) ∙ c.write_frame.ensures.answer ∙ w.0))
 
 pub write-requires : goal.write-requires
 write-requires c =

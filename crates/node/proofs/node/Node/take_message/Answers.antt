@@ -5,4 +5,4 @@ use Rattle.node.proofs.node.Node.take_message.Goals as goal
 pub commit-requires : goal.commit-requires
 commit-requires g c =
     let n = c.args.self.now in
-    rw c.after-message-o.ensures (message_keeps n.values c.in-ok-at.at c.args.message (of_node n) n.burst)
+    rw c.after_message-o.ensures (message_keeps n.values c.in_ok-at.at c.args.message (of_node n) n.burst)
