@@ -1,5 +1,5 @@
 -- From what a node's call does to what the ring's call does. Assumes nothing.
-use Rattle.std.proofs.Common.{◌≡◌, ℕ, zero, suc, ◌<◌, Bool, true, false, cond, ltb, List, [], ◌∷◌, length, get_or, set, is_ok, Some, None, Ok, Err, Option, Result, sym, refl, ap, ◌∙◌, subst, get_or-set_other}
+use Rattle.std.proofs.Common.{◌≡◌, ℕ, zero, suc, Bool, true, false, cond, ltb, List, [], ◌∷◌, length, get_or, set, is_ok, Some, None, Ok, Err, Option, Result, sym, refl, ap, ◌∙◌, subst, get_or-set_other}
 use Rattle.std.proofs.lemmas.Bool.{true≢false}
 use Rattle.fabric.specs.Marks.{Marks}
 use Rattle.frame.specs.Refusals.{Refusal, Answer, gave, refused}
@@ -13,11 +13,11 @@ use Rattle.node.specs.Faults.{told_at}
 use Rattle.node.specs.Settling.{is_due}
 use Rattle.ring.specs.declared.faults.RingFault.{RingFault}
 use Rattle.ring.specs.declared.station.Station.{Station}
-use Rattle.ring.specs.Calls.{Ask, force, switch, fail, repair, clear, tick, restart, status, deliver, frame, Call, call, gate, names_nobody, usurps, judged, step_of, step_at, answered, moved_if, ring_answer, after, is_gave, RingStep, Does, Opened}
+use Rattle.ring.specs.Calls.{Ask, force, switch, fail, repair, clear, tick, restart, status, deliver, frame, call, gate, names_nobody, usurps, judged, step_of, step_at, answered, moved_if, ring_answer, is_gave, Does, Opened}
 use Rattle.ring.specs.declared.faults.RingRefusal.{RingRefusal}
 use Rattle.ring.specs.Faults.{cause_at, placed_at, told_cause, told_ring}
-use Rattle.ring.specs.Row.{Seat, seat_of, view, seat, blank}
-use Rattle.ring.proofs.Views.{view_set, view_length}
+use Rattle.ring.specs.Row.{Seat, view, seat, blank}
+use Rattle.ring.proofs.Views.{view_set}
 
 -- ---- a refusal changes neither values nor marks
 

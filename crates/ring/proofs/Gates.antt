@@ -1,12 +1,12 @@
 -- When a call of a ring may go on. Assumes nothing.
-use Rattle.std.proofs.Common.{◌≡◌, ℕ, ◌<◌, ◌≤◌, Bool, true, false, cond, ◌&&◌, ltb, leb, List, length, Some, None, Option, sym, refl, ap, ◌∙◌, arith}
+use Rattle.std.proofs.Common.{◌≡◌, ℕ, ◌<◌, ◌≤◌, Bool, true, false, cond, ◌&&◌, ltb, leb, List, length, Some, None, Option, ap, ◌∙◌, arith}
 use Rattle.std.proofs.lemmas.Bool.{and_parts, lt-ltb, le-ltb, le-leb, lt-leb}
 use Rattle.fabric.specs.Marks.{Marks}
 use Rattle.node.specs.Rules.{makes_node}
 use Rattle.ring.specs.declared.faults.RingFault.{RingFault}
 use Rattle.ring.specs.declared.faults.RingFault.TheVariants.{Count, Unlawful, NoStation}
 use Rattle.ring.specs.declared.station.Station.{Station}
-use Rattle.ring.specs.Row.{Seat, view, seat, lawful, all_below, all_nodes, ring_settings, lawful_row}
+use Rattle.ring.specs.Row.{Seat, view, seat, lawful, all_nodes, ring_settings, lawful_row}
 use Rattle.ring.specs.Calls.{gate}
 use Rattle.ring.proofs.Views.{view_length}
 use Rattle.ring.proofs.Below.{below_at}

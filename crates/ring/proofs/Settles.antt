@@ -1,10 +1,10 @@
 -- Lawful settings, read from what has settings. Assumes nothing.
-use Rattle.std.proofs.Common.{◌≡◌, ℕ, ◌<◌, Bool, false, ◌&&◌, eqb, List, map, length, get_or, sym, refl, ap, ◌∙◌}
+use Rattle.std.proofs.Common.{◌≡◌, ℕ, ◌<◌, Bool, ◌&&◌, eqb, List, map, length, get_or, sym, ap, ◌∙◌}
 use lib.ListN.{length-map}
 use Rattle.std.proofs.lemmas.List.{get_or-map}
 use Rattle.node.specs.declared.types.Settings.{Settings}
 use Rattle.node.specs.Names.{is_owner}
-use Rattle.ring.specs.Row.{setting, lawful, fits_at, new_id, all_below, count_below, owners, joined_to, faces_owner, opposite}
+use Rattle.ring.specs.Row.{setting, lawful, fits_at, new_id, all_below, count_below, joined_to, faces_owner, opposite}
 
 module _ {X : Type 0} (of : X → Settings) where
   pub setting_read : (row : List X) (k : ℕ) (x : X) → k < length row → x ≡ get_or row k x → setting (map of row) k ≡ of x

@@ -1,10 +1,10 @@
 -- Reading and writing a row, as it is seen. Assumes nothing.
-use Rattle.std.proofs.Common.{◌≡◌, ℕ, ◌<◌, Bool, false, ◌&&◌, eqb, List, [], ◌∷◌, map, length, get_or, set, sym, refl, ap, ◌∙◌}
+use Rattle.std.proofs.Common.{◌≡◌, ℕ, ◌<◌, List, [], ◌∷◌, map, length, get_or, set, sym, refl, ap, ◌∙◌}
 use lib.ListN.{length-map}
 use Rattle.std.proofs.lemmas.List.{get_or-map, map-set}
 use Rattle.fabric.specs.Marks.{Marks}
 use Rattle.ring.specs.declared.station.Station.{Station}
-use Rattle.ring.specs.Row.{Seat, seat_of, view, seat, blank, ring_settings}
+use Rattle.ring.specs.Row.{seat_of, view, seat, blank, ring_settings}
 
 module _ {F : Type 0} (marks : F → Marks) where
   pub seat_read : (row : List (Station F)) (k : ℕ) (x : Station F) → k < length row → x ≡ get_or row k x → seat (view marks row) k ≡ seat_of marks x

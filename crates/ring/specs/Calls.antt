@@ -1,8 +1,8 @@
 -- What each call of a ring answers, and what it makes of the row. Assumes nothing.
-use Rattle.std.specs.Prelude.{◌≡◌, ℕ, ◌<◌, Bool, true, false, cond, not, ◌&&◌, List, map, length, Some, None, Ok, Err, Option, Result, ◌==◌, ◌≢◌, nat_lt, slice_index_or, slice_set}
+use Rattle.std.specs.Prelude.{◌≡◌, ℕ, ◌<◌, Bool, true, false, cond, not, ◌&&◌, List, length, Some, None, Option, ◌==◌, ◌≢◌, nat_lt, slice_index_or, slice_set}
 use Rattle.fabric.specs.Marks.{Marks}
 use Rattle.frame.specs.Ids.{id_number}
-use Rattle.frame.specs.Refusals.{Refusal, Answer, gave, refused}
+use Rattle.frame.specs.Refusals.{Answer, gave, refused}
 use Rattle.frame.specs.declared.types.Body.{Body}
 use Rattle.frame.specs.declared.types.Body.TheVariants.{Event, Signal}
 use Rattle.frame.specs.declared.types.Message.{Message}
@@ -14,9 +14,8 @@ use Rattle.node.specs.Names.{is_owner}
 use Rattle.node.specs.Receiving.{is_rpl_blocked}
 use Rattle.ring.specs.declared.faults.RingFault.{RingFault}
 use Rattle.ring.specs.declared.faults.RingFault.TheVariants.{Count, Unlawful, NoStation, Unnamed, NotOwner}
-use Rattle.ring.specs.declared.faults.RingRefusal.{RingRefusal}
 use Rattle.ring.specs.declared.station.Station.{Station}
-use Rattle.ring.specs.Faults.{cause_at, told_ring, placed_at}
+use Rattle.ring.specs.Faults.{cause_at, placed_at}
 use Rattle.ring.specs.Row.{Seat, view, seat, all_below, count_fits, lawful_row}
 
 -- what a station can be asked: at a port, with a frame at a port, with a buffer, or nothing more

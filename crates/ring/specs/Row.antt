@@ -1,9 +1,7 @@
 -- What is seen of a row of stations, and which rows are lawful. Assumes nothing.
-use Rattle.std.specs.Prelude.{ℕ, zero, suc, ◌+◌, ◌-◌, ◌<◌, Bool, true, false, cond, not, ◌&&◌, ◌||◌, List, [], ◌∷◌, map, length, ◌==◌, nat_le, slice_index_or}
+use Rattle.std.specs.Prelude.{ℕ, zero, suc, ◌+◌, ◌-◌, Bool, true, false, cond, not, ◌&&◌, List, [], map, length, ◌==◌, nat_le, slice_index_or}
 use Rattle.fabric.specs.Marks.{Marks}
 use Rattle.frame.specs.Ids.{id_number}
-use Rattle.frame.specs.declared.types.Channel.{Channel}
-use Rattle.frame.specs.declared.types.NodeId.{NodeId}
 use Rattle.node.specs.declared.types.NodeValues.{NodeValues}
 use Rattle.node.specs.declared.types.Port.{Port}
 use Rattle.node.specs.declared.types.Port.TheVariants.{Zero, One}

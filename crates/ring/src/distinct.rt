@@ -35,6 +35,6 @@ pub(crate) fn are_distinct<S: Settled>(row: &[S]) -> bool
     let mut all = [0u64; 255];
     let ids = &mut all[0..row.len()];
     copy_ids(row, ids);
-    ids.sort();
+    ids.sort_unstable();
     rises(ids)
 }

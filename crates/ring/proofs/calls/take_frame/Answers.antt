@@ -13,7 +13,7 @@ returns g c =
     record {
       does =
           closes g.F.Fabric.marks c.args.row.now c.args.station (frame b) c.in-Ok.at.0.values c.in-Ok.at.1 o
-          c.take-frame.new.self.values c.in-Ok.at.1 None c.take-frame.result c.held-answer.result c.close.result c.close.new.row
-          c.take-frame.ensures.answer c.take-frame.ensures.values refl c.held-answer.ensures c.close.ensures.answer c.close.ensures.row;
-      left = c.take-frame.ensures.left ∙ ap (λ v. frame_buffer v b) (sym o.values) ∙ sym (ap (λ e. buffer_if e (frame_buffer (seat ring c.args.station).values b) b) o.passes);
+          c.take_frame.new.self.values c.in-Ok.at.1 None c.take_frame.result c.held-answer.result c.close.result c.close.new.row
+          c.take_frame.ensures.answer c.take_frame.ensures.values refl c.held-answer.ensures c.close.ensures.answer c.close.ensures.row;
+      left = c.take_frame.ensures.left ∙ ap (λ v. frame_buffer v b) (sym o.values) ∙ sym (ap (λ e. buffer_if e (frame_buffer (seat ring c.args.station).values b) b) o.passes);
     }

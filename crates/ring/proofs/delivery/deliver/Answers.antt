@@ -1,4 +1,4 @@
-use Rattle.std.proofs.Common.{◌≡◌, cond, set, Some, sym, ap, ◌∙◌, subst}
+use Rattle.std.proofs.Common.{cond, set, Some, sym, ap, ◌∙◌, subst}
 use Rattle.ring.specs.Calls.{Does, call, deliver}
 use Rattle.ring.specs.Faults.{told_cause}
 use Rattle.ring.proofs.Doing.{does, gave_ok}

@@ -1,7 +1,6 @@
-use Rattle.std.proofs.Common.{◌≡◌, true, not, eqb}
-use Rattle.frame.specs.Ids.{id_number}
+use Rattle.std.proofs.Common.{◌≡◌, true, not}
 use Rattle.ring.specs.Calls.{is_owners}
-use Rattle.ring.specs.Row.{all_below, view, seat}
+use Rattle.ring.specs.Row.{all_below, view}
 use Rattle.ring.proofs.delivery.is_no_owners.Given as goal
 
 abbrev pub invariant-loop-k : goal.invariant-loop-k

@@ -1,6 +1,5 @@
 use Rattle.std.proofs.Common.{◌≡◌, true, not, eqb}
 use Rattle.frame.specs.Ids.{id_number}
-use Rattle.ring.specs.Calls.{is_owners}
 use Rattle.ring.specs.Row.{all_below, view, seat}
 use Rattle.ring.proofs.delivery.names_nobody.Given as goal
 

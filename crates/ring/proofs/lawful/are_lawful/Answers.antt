@@ -3,5 +3,5 @@ use Rattle.ring.proofs.lawful.are_lawful.Goals as goal
 
 pub returns : goal.returns
 returns g c =
-    lawful_is g.S.Settled.settled c.args.row.now c.are-distinct.result c.each-fits.result c.count-owners.result
-    c.are-distinct.ensures c.each-fits.ensures c.count-owners.ensures
+    lawful_is g.S.Settled.settled c.args.row.now c.are_distinct.result c.each_fits.result c.count_owners.result
+    c.are_distinct.ensures c.each_fits.ensures c.count_owners.ensures
