@@ -8,8 +8,8 @@ use fabric::{Fabric, FabricFault};
 // A wrong port is refused before anything changes.
 pub fn hand_over<F: Fabric>(fabric: &mut F, from: u8, to: u8) -> Result<(), FabricFault>
     ensures answer { result ≡ change_answer from to }
-    ensures after { marks fabric.new ≡ after_change (marks fabric.old) from to }
-    ensures same { kept fabric.new ≡ kept fabric.old }
+    ensures after { F.marks fabric.new ≡ after_change (F.marks fabric.old) from to }
+    ensures same { F.kept fabric.new ≡ F.kept fabric.old }
 {
     fabric.is_blocked(from)?;
     fabric.block(to)?;

@@ -280,16 +280,28 @@ impl Station {
     }
 
     // The fabric blocks what the node blocks; taught marks go together; host bits stay.
-    pub(crate) fn drives_well(&self) -> Result<(), Fail> {
+    pub(crate) fn drives_well(&self, rt: &impl Abort, number: u32) {
         let status = self.node.status();
-        assert_eq!(holds(self.fabric.is_blocked(0)), status.blocked.p0);
-        assert_eq!(holds(self.fabric.is_blocked(1)), status.blocked.p1);
-        assert_eq!(
-            holds(self.fabric.is_taught(0)),
-            holds(self.fabric.is_taught(1))
+        assert_eq!(rt;
+            holds(self.fabric.is_blocked(0)),
+            status.blocked.p0,
+            "example {number}"
         );
-        assert_eq!(self.fabric.word & 0x0FFF_FFFF, 0x0234_5678);
-        Ok(())
+        assert_eq!(rt;
+            holds(self.fabric.is_blocked(1)),
+            status.blocked.p1,
+            "example {number}"
+        );
+        assert_eq!(rt;
+            holds(self.fabric.is_taught(0)),
+            holds(self.fabric.is_taught(1)),
+            "example {number}"
+        );
+        assert_eq!(rt;
+            self.fabric.word & 0x0FFF_FFFF,
+            0x0234_5678,
+            "example {number}"
+        );
     }
 }
 
@@ -299,9 +311,7 @@ pub(crate) fn run(rt: &impl Abort, examples: &[Example]) -> Result<(), Fail> {
         let mut station = Station::brought(example.at, example.path)?;
         station.call(example.call)?;
         assert_eq!(rt; station.seen(), example.seen, "example {number}");
-        station
-            .drives_well()
-            .note(format_args!("example {number}"))?;
+        station.drives_well(rt, number);
         number = number.saturating_add(1);
     }
     Ok(())

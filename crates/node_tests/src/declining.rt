@@ -241,7 +241,8 @@ fn restart_is_taken(rt: HostRuntime) -> Result<(), Fail> {
         station.seen(),
         Seen('E', Marked::Port0, Sends::Nr, [0, 30_000, 0], KEEP)
     );
-    station.drives_well()
+    station.drives_well(&rt, 1);
+    Ok(())
 }
 
 #[test]

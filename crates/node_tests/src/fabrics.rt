@@ -65,5 +65,6 @@ fn a_frame(rt: HostRuntime) -> Result<(), Fail> {
     );
     assert_eq!(rt; station.node.values.pair1.0.number(), 0x0000_5E00_5301);
     assert!(rt; station.node.values.pair1.1);
-    station.drives_well()
+    station.drives_well(&rt, 1);
+    Ok(())
 }

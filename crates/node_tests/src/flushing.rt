@@ -29,7 +29,7 @@ fn walk(rt: &impl Abort, station: &mut Station, steps: &[Step]) -> Result<(), Fa
         assert_eq!(rt; gone, *flushed, "step {number}");
         assert_eq!(rt; short(station.node.values.pair0), *pair0, "step {number}");
         assert_eq!(rt; short(station.node.values.pair1), *pair1, "step {number}");
-        station.drives_well()?;
+        station.drives_well(rt, number);
         number = number.saturating_add(1);
     }
     Ok(())

@@ -177,5 +177,6 @@ fn made_node_serves(rt: HostRuntime) -> Result<(), Fail> {
         station.seen(),
         Seen('A', Marked::NoPort, Sends::Nothing, STILL, KEEP)
     );
-    station.drives_well()
+    station.drives_well(&rt, 1);
+    Ok(())
 }

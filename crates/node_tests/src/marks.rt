@@ -45,7 +45,7 @@ fn mismatch(rt: HostRuntime) -> Result<(), Fail> {
     for Way(at, path, marked) in &MISMATCH {
         let station = Station::brought(*at, path)?;
         assert_eq!(rt; station.node.status().mismatch, *marked, "way {number}");
-        station.drives_well()?;
+        station.drives_well(&rt, number);
         number = number.saturating_add(1);
     }
     Ok(())

@@ -125,7 +125,7 @@ fn set_up(rt: HostRuntime) -> Result<(), Fail> {
         };
         let station = Station { node, fabric };
         assert_eq!(rt; station.seen(), *seen);
-        station.drives_well()?;
+        station.drives_well(&rt, 1);
     }
     Ok(())
 }
