@@ -68,11 +68,17 @@ def turn(text, names, comment):
         w = m.group(1)
         return respelled(w) if w in names and w not in keep else w
 
+    # A string's text is no name.
+    spoken = re.compile(rf'"(?:[^"\\]|\\.)*"|{found.pattern}')
+
+    def name_or_text(m):
+        return m.group(0) if m.group(0).startswith('"') else word(m)
+
     lines = []
     for line in text.split("\n"):
         code, mark, rest = line.partition(comment)
         rest = re.sub(r"`[^`]*`", lambda m: found.sub(word, m.group(0)), rest)
-        lines.append(found.sub(word, code) + mark + rest)
+        lines.append(spoken.sub(name_or_text, code) + mark + rest)
     return "\n".join(lines)
 
 

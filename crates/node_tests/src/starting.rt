@@ -118,6 +118,7 @@ const NEW_STATIONS: [(At, Seen); 5] = [
 
 #[test]
 fn set_up(rt: HostRuntime) -> Result<(), Fail> {
+    let mut number: u32 = 1;
     for (at, seen) in &NEW_STATIONS {
         let mut fabric = RegisterFabric { word: 0xF234_5678 };
         let Ok(node) = Node::set_up(settings(*at), &mut fabric) else {
@@ -125,7 +126,8 @@ fn set_up(rt: HostRuntime) -> Result<(), Fail> {
         };
         let station = Station { node, fabric };
         assert_eq!(rt; station.seen(), *seen);
-        station.drives_well(&rt, 1);
+        station.drives_well(&rt, number);
+        number = number.saturating_add(1);
     }
     Ok(())
 }

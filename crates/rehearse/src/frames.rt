@@ -21,7 +21,7 @@ const FIELDS: [(usize, usize, &str); 14] = [
     (19, 20, "OpCode"),
     (20, 21, "flags"),
     (21, 22, "TLV offset"),
-    (22, 23, "request, sub_code 0"),
+    (22, 23, "request, sub-code 0"),
     (23, 24, "status: RB, DNF, BPR, five zero bits"),
     (24, 30, "Node ID"),
     (30, 54, "reserved"),
