@@ -1,5 +1,5 @@
 -- From what a node's call does to what the ring's call does. Assumes nothing.
-use Rattle.std.proofs.Common.{◌≡◌, ℕ, zero, suc, Bool, true, false, cond, ltb, List, [], ◌∷◌, length, get_or, set, is_ok, Some, None, Ok, Err, Option, Result, sym, refl, ap, ◌∙◌, subst, get_or-set_other}
+use Rattle.std.proofs.Common.{◌≡◌, ℕ, zero, suc, ◌<◌, Bool, true, false, cond, ltb, List, [], ◌∷◌, length, get_or, set, is_ok, is_err, Some, None, Ok, Err, Option, Result, sym, refl, ap, ◌∙◌, subst, arith, get_or-set_other}
 use Rattle.std.proofs.lemmas.Bool.{true≢false}
 use Rattle.fabric.specs.Marks.{Marks}
 use Rattle.frame.specs.Refusals.{Refusal, Answer, gave, refused}
@@ -9,14 +9,14 @@ use Rattle.node.specs.declared.types.NodeValues.{NodeValues}
 use Rattle.node.specs.declared.types.Port.{Port}
 use Rattle.node.specs.Calls as node
 use Rattle.node.specs.Calls.{Step}
-use Rattle.node.specs.Faults.{told_at}
 use Rattle.node.specs.Settling.{is_due}
 use Rattle.ring.specs.declared.faults.RingFault.{RingFault}
 use Rattle.ring.specs.declared.station.Station.{Station}
-use Rattle.ring.specs.Calls.{Ask, force, switch, fail, repair, clear, tick, restart, status, deliver, frame, call, gate, names_nobody, usurps, judged, step_of, step_at, answered, moved_if, ring_answer, is_gave, Does, Opened}
+use Rattle.ring.specs.Calls.{Ask, force, switch, fail, repair, clear, tick, restart, status, deliver, frame, Call, call, gate, row_gate, names_nobody, usurps, judged, step_of, step_at, answered, moved_if, ring_answer, is_gave, Keeps, Does, Opened, Ticks, last, more}
 use Rattle.ring.specs.declared.faults.RingRefusal.{RingRefusal}
-use Rattle.ring.specs.Faults.{cause_at, placed_at, told_cause, told_ring}
+use Rattle.ring.specs.Faults.{cause_at, placed_at, ring_refusal, told_cause, told_ring}
 use Rattle.ring.specs.Row.{Seat, view, seat, blank}
+use Rattle.ring.proofs.Gates.{gate_shut, row_refusal}
 use Rattle.ring.proofs.Views.{view_set}
 
 -- ---- a refusal changes neither values nor marks
@@ -59,7 +59,7 @@ quiet_frame v m true due w a b e = refl
 quiet_frame v m false true w a b e = never e
 quiet_frame v m false false w a b e = refl
 
-pub quiet : (ring : List Seat) (s : Seat) (a : Ask) → Quiet s.values s.marks (step_of ring s a)
+quiet : (ring : List Seat) (s : Seat) (a : Ask) → Quiet s.values s.marks (step_of ring s a)
 quiet ring s (force p) = at_port _ _ p (node.admitted s.values s.marks p) _ (λ _ e. never e)
 quiet ring s (switch p) = at_port _ _ p (node.admitted s.values s.marks p) _ (λ q. if_then _ _ (node.takes_manual s.values) _ _ (λ e. never e) (λ _. (refl, refl)))
 quiet ring s (fail p) = at_port _ _ p (node.admitted s.values s.marks p) _ (λ _ e. never e)
@@ -85,6 +85,18 @@ gave_placed i (refused r) = refl
 seat_is : (v : NodeValues) (m : Marks) (s : Seat) → s.values ≡ v → s.marks ≡ m → s ≡ record { values = v; marks = m }
 seat_is v m s e f = ap (λ x. record { values = x; marks = s.marks }) e ∙ ap (λ y. record { values = v; marks = y }) f
 
+-- a station that refuses stays as it is
+pub unmoved : (ring : List Seat) (i : ℕ) (a : Ask) → is_gave (step_at (call i a) ring).answer ≡ false
+    → set ring i (record { values = (step_at (call i a) ring).values; marks = (step_at (call i a) ring).marks }) ≡ ring
+unmoved ring i a e =
+    let same = quiet ring (seat ring i) a e in
+    ap (λ t. set ring i t) (sym (seat_is _ _ (seat ring i) (sym same.0) (sym same.1))) ∙ set_same ring i blank
+
+-- a call that does what the rules say, and changes nothing of what a fabric keeps
+pub record Done {F : Type 0} (marks : F → Marks) (kept : F → List (List ℕ)) (c : Call) (row : List (Station F)) (r : Answer (Unit {0})) (row' : List (Station F)) : Type 0 where
+  pub does : Does marks c row r row'
+  pub host : Keeps kept row row'
+
 -- a question leaves the row as it is
 pub looks : {F : Type 0} (marks : F → Marks) (row : List (Station F)) (i : ℕ) → gate (view marks row) i ≡ None → Does marks (call i status) row (gave tt) row
 looks marks row i h =
@@ -100,83 +112,116 @@ looks marks row i h =
       };
     }
 
-module _ {F : Type 0} (marks : F → Marks) (row : List (Station F)) (i : ℕ) (a : Ask) where
-  pub gate_refuses : (e : RingFault) → gate (view marks row) i ≡ Some e → Does marks (call i a) row (refused (cause_at None e)) row
+-- a station that keeps what its fabric keeps leaves all kept
+pub keeps_set : {F : Type 0} (kept : F → List (List ℕ)) (row : List (Station F)) (i : ℕ) (x : Station F)
+    → ((d : Station F) → i < length row → kept x.fabric ≡ kept (get_or row i d).fabric) → Keeps kept row (set row i x)
+keeps_set kept [] i x h k d = refl
+keeps_set kept (s ∷ row) zero x h zero d = h d (omega arith)
+keeps_set kept (s ∷ row) zero x h (suc k) d = refl
+keeps_set kept (s ∷ row) (suc i) x h zero d = refl
+keeps_set kept (s ∷ row) (suc i) x h (suc k) d = keeps_set kept row i x (λ e l. h e (omega arith)) k d
+
+module _ {F : Type 0} (marks : F → Marks) (kept : F → List (List ℕ)) (row : List (Station F)) (i : ℕ) (a : Ask) where
+  pub gate_refuses : (e : RingFault) → gate (view marks row) i ≡ Some e → Done marks kept (call i a) row (refused (cause_at None e)) row
   gate_refuses e h = record {
-    answer = sym (ap (λ o. answered o (placed_at i (step_at (call i a) (view marks row)).answer)) h);
-    step = record {
-      taken = sym (ap (λ o. is_gave (answered o (placed_at i (step_at (call i a) (view marks row)).answer))) h);
-      seen = sym (ap (λ o. moved_if o (set (view marks row) i (record { values = (step_at (call i a) (view marks row)).values; marks = (step_at (call i a) (view marks row)).marks })) (view marks row)) h);
-      others = λ k d n. refl;
-      refused = λ _. refl;
+    does = record {
+      answer = sym (ap (λ o. answered o (placed_at i (step_at (call i a) (view marks row)).answer)) h);
+      step = record {
+        taken = sym (ap (λ o. is_gave (answered o (placed_at i (step_at (call i a) (view marks row)).answer))) h);
+        seen = sym (ap (λ o. moved_if o (set (view marks row) i (record { values = (step_at (call i a) (view marks row)).values; marks = (step_at (call i a) (view marks row)).marks })) (view marks row)) h);
+        others = λ k d n. refl;
+        refused = λ _. refl;
+      };
     };
+    host = λ k d. refl;
   }
 
-  module _ (v : NodeValues) (f : F) (o : Opened marks row i v f) (w : NodeValues) (f' : F) where
-    ring : List Seat
-    ring = view marks row
-
-    here : Seat
-    here = record { values = v; marks = marks f }
-
+  module _ (v : NodeValues) (f : F) (o : Opened marks row i v f) (own : (d : Station F) → (get_or row i d).fabric ≡ f) (w : NodeValues) (f' : F) (keep : kept f' ≡ kept f) where
     at_seat : seat (view marks row) i ≡ record { values = v; marks = marks f }
     at_seat = seat_is v (marks f) (seat (view marks row) i) o.values o.fabric
 
     steps : step_of (view marks row) (record { values = v; marks = marks f }) a ≡ step_at (call i a) (view marks row)
     steps = ap (λ s. step_of (view marks row) s a) (sym at_seat)
 
+    hosts : Keeps kept row (set row i (record { values = w; fabric = f' }))
+    hosts = keeps_set kept row i (record { values = w; fabric = f' }) (λ d l. keep ∙ ap kept (sym (own d)))
+
     pub does : (said : Answer (Unit {0})) (row' : List (Station F))
         → said ≡ (step_of (view marks row) (record { values = v; marks = marks f }) a).answer
         → w ≡ (step_of (view marks row) (record { values = v; marks = marks f }) a).values
         → marks f' ≡ (step_of (view marks row) (record { values = v; marks = marks f }) a).marks
         → row' ≡ cond (is_gave said) (set row i (record { values = w; fabric = f' })) row
-        → Does marks (call i a) row (placed_at i said) row'
+        → Done marks kept (call i a) row (placed_at i said) row'
     does (gave u) row' e x y z =
         let told : placed_at i (gave u) ≡ ring_answer (call i a) (view marks row) =
         ap (placed_at i) (e ∙ ap (λ (s : Step). s.answer) steps) ∙ sym (ap (λ g. answered g (placed_at i (step_at (call i a) (view marks row)).answer)) o.passes) in
         record {
-          answer = told;
-          step = record {
-            taken = ap is_gave told;
-            seen = ap (view marks) z ∙ view_set marks row i (record { values = w; fabric = f' })
-                ∙ ap (λ t. set (view marks row) i t)
-                (ap (λ t. record { values = t; marks = marks f' }) (x ∙ ap (λ (s : Step). s.values) steps)
-                ∙ ap (λ t. record { values = (step_at (call i a) (view marks row)).values; marks = t }) (y ∙ ap (λ (s : Step). s.marks) steps))
-                ∙ sym (ap (λ g. moved_if g (set (view marks row) i (record { values = (step_at (call i a) (view marks row)).values; marks = (step_at (call i a) (view marks row)).marks })) (view marks row)) o.passes);
-            others = λ k d n. ap (λ r. get_or r k d) z ∙ get_or-set_other row i k _ d n;
-            refused = λ n. never n;
+          does = record {
+            answer = told;
+            step = record {
+              taken = ap is_gave told;
+              seen = ap (view marks) z ∙ view_set marks row i (record { values = w; fabric = f' })
+                  ∙ ap (λ t. set (view marks row) i t)
+                  (ap (λ t. record { values = t; marks = marks f' }) (x ∙ ap (λ (s : Step). s.values) steps)
+                  ∙ ap (λ t. record { values = (step_at (call i a) (view marks row)).values; marks = t }) (y ∙ ap (λ (s : Step). s.marks) steps))
+                  ∙ sym (ap (λ g. moved_if g (set (view marks row) i (record { values = (step_at (call i a) (view marks row)).values; marks = (step_at (call i a) (view marks row)).marks })) (view marks row)) o.passes);
+              others = λ k d n. ap (λ r. get_or r k d) z ∙ get_or-set_other row i k _ d n;
+              refused = λ n. never n;
+            };
           };
+          host = subst (λ q. Keeps kept row q) (sym z) hosts;
         }
     does (refused r) row' e x y z =
         let told : placed_at i (refused r) ≡ ring_answer (call i a) (view marks row) =
         ap (placed_at i) (e ∙ ap (λ (s : Step). s.answer) steps) ∙ sym (ap (λ g. answered g (placed_at i (step_at (call i a) (view marks row)).answer)) o.passes) in
-        let same = quiet (view marks row) (seat (view marks row) i) a (ap is_gave (sym (e ∙ ap (λ (s : Step). s.answer) steps))) in
         record {
-          answer = told;
-          step = record {
-            taken = ap is_gave told;
-            seen = ap (view marks) z
-                ∙ sym (ap (λ g. moved_if g (set (view marks row) i (record { values = (step_at (call i a) (view marks row)).values; marks = (step_at (call i a) (view marks row)).marks })) (view marks row)) o.passes
-                ∙ ap (λ t. set (view marks row) i t) (sym (seat_is _ _ (seat (view marks row) i) (sym same.0) (sym same.1)))
-                ∙ set_same (view marks row) i blank);
-            others = λ k d n. ap (λ q. get_or q k d) z;
-            refused = λ _. z;
+          does = record {
+            answer = told;
+            step = record {
+              taken = ap is_gave told;
+              seen = ap (view marks) z
+                  ∙ sym (ap (λ g. moved_if g (set (view marks row) i (record { values = (step_at (call i a) (view marks row)).values; marks = (step_at (call i a) (view marks row)).marks })) (view marks row)) o.passes
+                  ∙ unmoved (view marks row) i a (ap is_gave (sym (e ∙ ap (λ (s : Step). s.answer) steps))));
+              others = λ k d n. ap (λ q. get_or q k d) z;
+              refused = λ _. z;
+            };
           };
+          host = subst (λ q. Keeps kept row q) (sym z) (λ k d. refl);
         }
 
-    pub gave_ok : (called : Option ℕ) (h : Result (Unit {0}) RingFault) → is_ok h ≡ is_gave (told_cause called h)
-    gave_ok called (Ok u) = refl
-    gave_ok called (Err e) = refl
-
-    -- a call of a node, held and closed
-    pub closes : (called : Option ℕ) (r : Result (Unit {0}) NodeFault) (h : Result (Unit {0}) RingFault) (end : Result (Unit {0}) RingRefusal) (row' : List (Station F))
-        → told_at called r ≡ (step_of (view marks row) (record { values = v; marks = marks f }) a).answer
+    -- what a station answers, closed
+    pub closes : (called : Option ℕ) (h : Result (Unit {0}) RingFault) (end : Result (Unit {0}) RingRefusal) (row' : List (Station F))
+        → told_cause called h ≡ (step_of (view marks row) (record { values = v; marks = marks f }) a).answer
         → w ≡ (step_of (view marks row) (record { values = v; marks = marks f }) a).values
         → marks f' ≡ (step_of (view marks row) (record { values = v; marks = marks f }) a).marks
-        → ((p : Option ℕ) → told_cause p h ≡ told_at p r)
         → told_ring end ≡ placed_at i (told_cause called h)
         → row' ≡ cond (is_ok h) (set row i (record { values = w; fabric = f' })) row
-        → Does marks (call i a) row (told_ring end) row'
-    closes called r h end row' e x y k t z =
-        subst (λ s. Does marks (call i a) row s row') (sym t)
-        (does (told_cause called h) row' (k called ∙ e) x y (z ∙ ap (λ b. cond b (set row i (record { values = w; fabric = f' })) row) (gave_ok called h)))
+        → Done marks kept (call i a) row (told_ring end) row'
+    closes called h end row' e x y t z =
+        subst (λ s. Done marks kept (call i a) row s row') (sym t)
+        (does (told_cause called h) row' e x y (z ∙ ap (λ b. cond b (set row i (record { values = w; fabric = f' })) row) (gave_ok called h)))
+      where
+        gave_ok : (called : Option ℕ) (h : Result (Unit {0}) RingFault) → is_ok h ≡ is_gave (told_cause called h)
+        gave_ok called (Ok u) = refl
+        gave_ok called (Err e) = refl
+
+-- ---- ticks
+
+-- a tick that is refused is refused again
+pub refused_again : {F : Type 0} (marks : F → Marks) (i n : ℕ) (row row' : List (Station F)) (r : Result (Unit {0}) RingRefusal) → is_err r ≡ true
+    → Does marks (call i tick) row (told_ring r) row' → Ticks marks i (suc n) row (told_ring r) row'
+refused_again marks i n row row' (Ok u) e d = never (sym e)
+refused_again {F} marks i n row row' (Err x) e d =
+    subst (λ q. Ticks marks i (suc n) row (told_ring (Err x)) q) (sym (d.step.refused refl))
+    (again n (subst (λ q. Does marks (call i tick) row (told_ring (Err x)) q) (d.step.refused refl) d))
+  where
+    again : (n : ℕ) → Does marks (call i tick) row (told_ring (Err x)) row → Ticks marks i (suc n) row (told_ring (Err x)) row
+    again zero d = last d
+    again (suc n) d = more d (again n d)
+
+-- a row that may not be called refuses every call
+pub row_refuses : {F : Type 0} (marks : F → Marks) (kept : F → List (List ℕ)) (row : List (Station F)) (i : ℕ) (a : Ask) (e : RingFault) (x : RingRefusal)
+    → row_gate (view marks row) ≡ Some e → x.station ≡ None → x.port ≡ None → x.cause ≡ e → Done marks kept (call i a) row (refused (ring_refusal x)) row
+row_refuses marks kept row i a e x h s p c =
+    subst (λ r. Done marks kept (call i a) row (refused r) row) (sym (row_refusal (view marks row) e x h s p c))
+    (gate_refuses marks kept row i a e (gate_shut (view marks row) i e h))

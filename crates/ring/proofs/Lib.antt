@@ -2,5 +2,11 @@ pub mod Below
 pub mod Distincts
 pub mod Doing
 pub mod Gates
+pub mod Lasting
+pub mod Law
+pub mod Owners
 pub mod Settles
+pub mod Starting
+pub mod Survivors
+pub mod Taking
 pub mod Views

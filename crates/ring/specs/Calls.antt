@@ -1,5 +1,5 @@
 -- What each call of a ring answers, and what it makes of the row. Assumes nothing.
-use Rattle.std.specs.Prelude.{◌≡◌, ℕ, ◌<◌, Bool, true, false, cond, not, ◌&&◌, List, length, Some, None, Option, ◌==◌, ◌≢◌, nat_lt, slice_index_or, slice_set}
+use Rattle.std.specs.Prelude.{◌≡◌, ℕ, suc, ◌<◌, Bool, true, false, cond, not, ◌&&◌, List, length, Some, None, Option, ◌==◌, ◌≢◌, nat_lt, slice_index_or, slice_set}
 use Rattle.fabric.specs.Marks.{Marks}
 use Rattle.frame.specs.Ids.{id_number}
 use Rattle.frame.specs.Refusals.{Answer, gave, refused}
@@ -29,6 +29,10 @@ pub data Ask : Type 0 where
 pub record Call : Type 0 where
   pub station : ℕ
   pub asks : Ask
+
+-- 14, 15
+abbrev pub row_gate : List Seat → Option RingFault
+row_gate ring = cond (count_fits (length ring)) (cond (lawful_row ring) None (Some Unlawful)) (Some Count)
 
 -- 14, 15, 16
 abbrev pub gate : List Seat → ℕ → Option RingFault
@@ -110,6 +114,10 @@ pub record Does {F : Type 0} (marks : F → Marks) (c : Call) (row : List (Stati
   pub answer : r ≡ ring_answer c (view marks row)
   pub step : RingStep marks c row (is_gave r) row'
 
+-- what no call changes at any station: what its fabric keeps for its host
+abbrev pub Keeps : {F : Type 0} → (F → List (List ℕ)) → List (Station F) → List (Station F) → Type 0
+Keeps {F} kept row row' = (k : ℕ) (d : Station F) → kept (slice_index_or row' k d).fabric ≡ kept (slice_index_or row k d).fabric
+
 abbrev pub call : ℕ → Ask → Call
 call i a = record { station = i; asks = a }
 
@@ -140,3 +148,12 @@ status_if (Some e) s = refused (cause_at None e)
 
 abbrev pub ring_status : List Seat → ℕ → Answer Status
 ring_status ring i = status_if (gate ring i) (status_of (seat ring i).values)
+
+-- ---- ticks one after the other
+
+-- n ticks at a station, each as a tick does; the answer is the last one's, and of none nothing is refused
+pub data Ticks {F : Type 0} (marks : F → Marks) (i : ℕ) : ℕ → List (Station F) → Answer (Unit {0}) → List (Station F) → Type 0 where
+  none : {row : List (Station F)} → Ticks marks i 0 row (gave tt) row
+  last : {row row' : List (Station F)} {r : Answer (Unit {0})} → Does marks (call i tick) row r row' → Ticks marks i 1 row r row'
+  more : {n : ℕ} {row mid row' : List (Station F)} {r s : Answer (Unit {0})}
+      → Does marks (call i tick) row s mid → Ticks marks i (suc n) mid r row' → Ticks marks i (suc (suc n)) row r row'

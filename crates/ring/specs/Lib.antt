@@ -1,4 +1,9 @@
+pub mod Asked
 pub mod Calls
 pub mod Distinct
 pub mod Faults
+pub mod NodeLaws
 pub mod Row
+pub mod Runs
+pub mod SetUp
+pub mod Survivor

@@ -1,11 +1,12 @@
-// The calls of a ring: each reads one station, makes its node, calls it, and writes that station whole.
-ghost use Rattle.std.specs.Prelude.{◌≡◌};
-ghost use Rattle.ring.specs.Calls.{Does, call, clear, fail, force, frame as frame_into, repair, restart, ring_buffer, ring_status, status, switch, tick, unit_of};
+// The calls of a ring at a station: the row is checked, and one station is read, asked, and written whole.
+ghost use Rattle.std.specs.Prelude.{◌≡◌, None};
+ghost use Rattle.ring.specs.Calls.{Does, Keeps, call, clear, deliver, fail, force, frame as frame_into, repair, restart, ring_buffer, ring_status, row_gate, status, switch, tick, unit_of};
 ghost use Rattle.ring.specs.Faults.{told_ring};
 ghost use Rattle.ring.specs.Row.{view};
 
+use crate::asking::{StationCall, perform};
 use crate::faults::RingRefusal;
-use crate::opening::{close, held, nowhere, open};
+use crate::opening::{check, close, enter, held, nowhere};
 use crate::station::Station;
 use fabric::Fabric;
 use node::Status;
@@ -16,18 +17,10 @@ pub fn force<F: Fabric + Copy>(
     station: usize,
     port: u8,
 ) -> Result<(), RingRefusal>
-    ensures { Does F.Fabric.marks (call station (force port)) row.old (told_ring result) row.new }
+    ensures does { Does F.Fabric.marks (call station (force port)) row.old (told_ring result) row.new }
+    ensures host { Keeps F.Fabric.kept row.old row.new }
 {
-    let (mut node, mut fabric) = match open(row, station) {
-        Ok(at) => at,
-        Err(cause) => return Err(nowhere(cause)),
-    };
-    let answer = held(node.force(&mut fabric, port));
-    let after = Station {
-        values: node.values,
-        fabric,
-    };
-    close(row, station, Some(port), after, answer)
+    perform(row, station, StationCall::Force(port), &[])
 }
 
 // Manual switch (MS) at a station's port.
@@ -36,18 +29,10 @@ pub fn switch<F: Fabric + Copy>(
     station: usize,
     port: u8,
 ) -> Result<(), RingRefusal>
-    ensures { Does F.Fabric.marks (call station (switch port)) row.old (told_ring result) row.new }
+    ensures does { Does F.Fabric.marks (call station (switch port)) row.old (told_ring result) row.new }
+    ensures host { Keeps F.Fabric.kept row.old row.new }
 {
-    let (mut node, mut fabric) = match open(row, station) {
-        Ok(at) => at,
-        Err(cause) => return Err(nowhere(cause)),
-    };
-    let answer = held(node.switch(&mut fabric, port));
-    let after = Station {
-        values: node.values,
-        fabric,
-    };
-    close(row, station, Some(port), after, answer)
+    perform(row, station, StationCall::Switch(port), &[])
 }
 
 // A failure at a station's port.
@@ -56,18 +41,10 @@ pub fn fail<F: Fabric + Copy>(
     station: usize,
     port: u8,
 ) -> Result<(), RingRefusal>
-    ensures { Does F.Fabric.marks (call station (fail port)) row.old (told_ring result) row.new }
+    ensures does { Does F.Fabric.marks (call station (fail port)) row.old (told_ring result) row.new }
+    ensures host { Keeps F.Fabric.kept row.old row.new }
 {
-    let (mut node, mut fabric) = match open(row, station) {
-        Ok(at) => at,
-        Err(cause) => return Err(nowhere(cause)),
-    };
-    let answer = held(node.fail(&mut fabric, port));
-    let after = Station {
-        values: node.values,
-        fabric,
-    };
-    close(row, station, Some(port), after, answer)
+    perform(row, station, StationCall::Fail(port), &[])
 }
 
 // The repair of a station's port.
@@ -76,78 +53,61 @@ pub fn repair<F: Fabric + Copy>(
     station: usize,
     port: u8,
 ) -> Result<(), RingRefusal>
-    ensures { Does F.Fabric.marks (call station (repair port)) row.old (told_ring result) row.new }
+    ensures does { Does F.Fabric.marks (call station (repair port)) row.old (told_ring result) row.new }
+    ensures host { Keeps F.Fabric.kept row.old row.new }
 {
-    let (mut node, mut fabric) = match open(row, station) {
-        Ok(at) => at,
-        Err(cause) => return Err(nowhere(cause)),
-    };
-    let answer = held(node.repair(&mut fabric, port));
-    let after = Station {
-        values: node.values,
-        fabric,
-    };
-    close(row, station, Some(port), after, answer)
+    perform(row, station, StationCall::Repair(port), &[])
 }
 
 // Clear at a station.
 pub fn clear<F: Fabric + Copy>(row: &mut [Station<F>], station: usize) -> Result<(), RingRefusal>
-    ensures { Does F.Fabric.marks (call station clear) row.old (told_ring result) row.new }
+    ensures does { Does F.Fabric.marks (call station clear) row.old (told_ring result) row.new }
+    ensures host { Keeps F.Fabric.kept row.old row.new }
 {
-    let (mut node, mut fabric) = match open(row, station) {
-        Ok(at) => at,
-        Err(cause) => return Err(nowhere(cause)),
-    };
-    let answer = held(node.clear(&mut fabric));
-    let after = Station {
-        values: node.values,
-        fabric,
-    };
-    close(row, station, None, after, answer)
+    perform(row, station, StationCall::Clear, &[])
 }
 
 // One tick at a station.
 pub fn tick<F: Fabric + Copy>(row: &mut [Station<F>], station: usize) -> Result<(), RingRefusal>
-    ensures { Does F.Fabric.marks (call station tick) row.old (told_ring result) row.new }
+    ensures does { Does F.Fabric.marks (call station tick) row.old (told_ring result) row.new }
+    ensures host { Keeps F.Fabric.kept row.old row.new }
 {
-    let (mut node, mut fabric) = match open(row, station) {
-        Ok(at) => at,
-        Err(cause) => return Err(nowhere(cause)),
-    };
-    let answer = held(node.tick(&mut fabric));
-    let after = Station {
-        values: node.values,
-        fabric,
-    };
-    close(row, station, None, after, answer)
+    perform(row, station, StationCall::Tick, &[])
 }
 
 // Starts a station again.
 pub fn restart<F: Fabric + Copy>(row: &mut [Station<F>], station: usize) -> Result<(), RingRefusal>
-    ensures { Does F.Fabric.marks (call station restart) row.old (told_ring result) row.new }
+    ensures does { Does F.Fabric.marks (call station restart) row.old (told_ring result) row.new }
+    ensures host { Keeps F.Fabric.kept row.old row.new }
 {
-    let (mut node, mut fabric) = match open(row, station) {
-        Ok(at) => at,
-        Err(cause) => return Err(nowhere(cause)),
-    };
-    node.restart(&mut fabric);
-    let after = Station {
-        values: node.values,
-        fabric,
-    };
-    close(row, station, None, after, Ok(()))
+    perform(row, station, StationCall::Restart, &[])
 }
 
-// The frame that is due at a station, into the buffer's first 55 octets.
-pub fn take_frame<F: Fabric + Copy>(
+// Hands a frame to a station at a port.
+pub fn deliver<F: Fabric + Copy>(
+    row: &mut [Station<F>],
+    station: usize,
+    port: u8,
+    octets: &[u8],
+) -> Result<(), RingRefusal>
+    ensures does { Does F.Fabric.marks (call station (deliver port octets.now)) row.old (told_ring result) row.new }
+    ensures host { Keeps F.Fabric.kept row.old row.new }
+{
+    perform(row, station, StationCall::Deliver(port), octets)
+}
+
+// The frame request, in a row that was checked.
+pub(crate) fn act_frame<F: Fabric + Copy>(
     row: &mut [Station<F>],
     station: usize,
     buffer: &mut [u8],
 ) -> Result<(), RingRefusal>
+    requires { row_gate (view F.Fabric.marks row.old) ≡ None }
     ensures does { Does F.Fabric.marks (call station (frame_into buffer.old)) row.old (told_ring result) row.new }
+    ensures host { Keeps F.Fabric.kept row.old row.new }
     ensures left { buffer.new ≡ ring_buffer (view F.Fabric.marks row.old) station buffer.old }
 {
-    let (mut node, fabric) = match open(row, station) {
+    let (mut node, fabric) = match enter(row, station) {
         Ok(at) => at,
         Err(cause) => return Err(nowhere(cause)),
     };
@@ -159,13 +119,44 @@ pub fn take_frame<F: Fabric + Copy>(
     close(row, station, None, after, answer)
 }
 
+// The frame that is due at a station, into the buffer's first 55 octets.
+pub fn take_frame<F: Fabric + Copy>(
+    row: &mut [Station<F>],
+    station: usize,
+    buffer: &mut [u8],
+) -> Result<(), RingRefusal>
+    ensures does { Does F.Fabric.marks (call station (frame_into buffer.old)) row.old (told_ring result) row.new }
+    ensures host { Keeps F.Fabric.kept row.old row.new }
+    ensures left { buffer.new ≡ ring_buffer (view F.Fabric.marks row.old) station buffer.old }
+{
+    match check(row) {
+        Ok(()) => act_frame(row, station, buffer),
+        Err(cause) => Err(nowhere(cause)),
+    }
+}
+
+// The status question, in a row that was checked.
+pub(crate) fn act_status<F: Fabric + Copy>(
+    row: &[Station<F>],
+    station: usize,
+) -> Result<Status, RingRefusal>
+    requires { row_gate (view F.Fabric.marks row.now) ≡ None }
+    ensures answer { told_ring result ≡ ring_status (view F.Fabric.marks row.now) station }
+    ensures does { Does F.Fabric.marks (call station status) row.now (unit_of (told_ring result)) row.now }
+{
+    match enter(row, station) {
+        Ok((node, _)) => Ok(node.status()),
+        Err(cause) => Err(nowhere(cause)),
+    }
+}
+
 // What a station's node holds but the flush pairs; changes nothing.
 pub fn status<F: Fabric + Copy>(row: &[Station<F>], station: usize) -> Result<Status, RingRefusal>
     ensures answer { told_ring result ≡ ring_status (view F.Fabric.marks row.now) station }
     ensures does { Does F.Fabric.marks (call station status) row.now (unit_of (told_ring result)) row.now }
 {
-    match open(row, station) {
-        Ok((node, _)) => Ok(node.status()),
+    match check(row) {
+        Ok(()) => act_status(row, station),
         Err(cause) => Err(nowhere(cause)),
     }
 }

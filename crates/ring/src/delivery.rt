@@ -3,13 +3,12 @@ ghost use Rattle.std.specs.Prelude.{◌≡◌, ℕ, ◌<◌, Bool, not, ◌&&◌
 ghost use Rattle.frame.specs.Ids.{id_number};
 ghost use Rattle.node.specs.Calls.{question};
 ghost use Rattle.node.specs.Receiving.{is_rpl_blocked};
-ghost use Rattle.ring.specs.Calls.{Does, call, deliver, is_owners, is_rb, judged, names_nobody, usurps};
-ghost use Rattle.ring.specs.Faults.{told_cause, told_ring};
+ghost use Rattle.ring.specs.Calls.{is_owners, is_rb, judged, names_nobody, usurps};
+ghost use Rattle.ring.specs.Faults.{told_cause};
 ghost use Rattle.ring.specs.Row.{Seat, all_below, seat, view};
 
-use crate::faults::{RingFault, RingRefusal};
+use crate::faults::RingFault;
 use crate::lawful::{is_owner, values_at};
-use crate::opening::{close, nowhere, open};
 use crate::station::Station;
 use fabric::Fabric;
 use frame::{Body, Message, NodeId, Request};
@@ -70,7 +69,7 @@ fn usurps<F: Fabric>(row: &[Station<F>], message: Message) -> bool
 }
 
 // 8, 9, 1 to 6, 17, 18, then the message.
-fn hear<F: Fabric>(
+pub(crate) fn hear<F: Fabric>(
     row: &[Station<F>],
     node: &mut Node,
     fabric: &mut F,
@@ -80,6 +79,7 @@ fn hear<F: Fabric>(
     ensures answer { told_cause (Some port) result ≡ (judged (view F.Fabric.marks row.now) (record { values = node.old.values; marks = F.Fabric.marks fabric.old }) port (question node.old.values (F.Fabric.marks fabric.old) port octets.now)).answer }
     ensures values { node.new.values ≡ (judged (view F.Fabric.marks row.now) (record { values = node.old.values; marks = F.Fabric.marks fabric.old }) port (question node.old.values (F.Fabric.marks fabric.old) port octets.now)).values }
     ensures marks { F.Fabric.marks fabric.new ≡ (judged (view F.Fabric.marks row.now) (record { values = node.old.values; marks = F.Fabric.marks fabric.old }) port (question node.old.values (F.Fabric.marks fabric.old) port octets.now)).marks }
+    ensures kept { F.Fabric.kept fabric.new ≡ F.Fabric.kept fabric.old }
 {
     let message = node.question(fabric, port, octets)?;
     if names_nobody(row, message.node) {
@@ -90,25 +90,4 @@ fn hear<F: Fabric>(
     }
     node.take_message(fabric, port, message)?;
     Ok(())
-}
-
-// Hands a frame to a station at a port.
-pub fn deliver<F: Fabric + Copy>(
-    row: &mut [Station<F>],
-    station: usize,
-    port: u8,
-    octets: &[u8],
-) -> Result<(), RingRefusal>
-    ensures { Does F.Fabric.marks (call station (deliver port octets.now)) row.old (told_ring result) row.new }
-{
-    let (mut node, mut fabric) = match open(row, station) {
-        Ok(at) => at,
-        Err(cause) => return Err(nowhere(cause)),
-    };
-    let answer = hear(row, &mut node, &mut fabric, port, octets);
-    let after = Station {
-        values: node.values,
-        fabric,
-    };
-    close(row, station, Some(port), after, answer)
 }

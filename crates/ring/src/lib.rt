@@ -1,6 +1,7 @@
 // Stations in a row that the caller owns.
 #![tactic(auto)]
 
+mod asking;
 mod calls;
 mod delivery;
 mod distinct;
@@ -8,10 +9,17 @@ mod faults;
 mod lawful;
 mod numbers;
 mod opening;
+mod resting;
 mod settled;
+mod setup;
 mod station;
+mod surviving;
+mod ticking;
 
-pub use calls::{clear, fail, force, repair, restart, status, switch, take_frame, tick};
-pub use delivery::deliver;
+pub use asking::StationCall;
+pub use calls::{clear, deliver, fail, force, repair, restart, status, switch, take_frame, tick};
 pub use faults::{RingFault, RingRefusal};
+pub use setup::set_up;
 pub use station::Station;
+pub use surviving::survivor;
+pub use ticking::ticks;

@@ -1,9 +1,9 @@
 // Where a call enters a row and leaves it.
-ghost use Rattle.std.specs.Prelude.{◌≡◌, ℕ, ◌<◌, ◌≤◌, Bool, ◌&&◌, length, is_ok, if◌then◌else◌, Some, None, Option, slice_set};
+ghost use Rattle.std.specs.Prelude.{◌≡◌, ℕ, ◌<◌, ◌≤◌, Bool, ◌&&◌, length, is_ok, if◌then◌else◌, Some, None, Option, IfOk, slice_index_or, slice_set};
 ghost use Rattle.std.specs.Result as Results;
 ghost use Rattle.frame.specs.Refusals.{refused};
 ghost use Rattle.node.specs.Faults.{told_at};
-ghost use Rattle.ring.specs.Calls.{Opened, gate};
+ghost use Rattle.ring.specs.Calls.{Opened, gate, row_gate};
 ghost use Rattle.ring.specs.Faults.{cause_at, placed_at, ring_refusal, told_cause, told_ring, with_station};
 ghost use Rattle.ring.specs.Row.{lawful_row, view};
 
@@ -20,12 +20,9 @@ fn is_lawful_row<F: Fabric>(row: &[Station<F>]) -> bool
     are_nodes(row) & are_lawful(row)
 }
 
-// 14, 15, 16: the node and the fabric of a station, where the row is lawful and has it.
-pub(crate) fn open<F: Fabric + Copy>(
-    row: &[Station<F>],
-    station: usize,
-) -> Result<(Node, F), RingFault>
-    ensures { Results.MatchResult result (λ x. Opened F.Fabric.marks row.now station x.0.values x.1) (λ e. gate (view F.Fabric.marks row.now) station ≡ Some e) }
+// 14, 15.
+pub(crate) fn check<F: Fabric>(row: &[Station<F>]) -> Result<(), RingFault>
+    ensures { Results.MatchResult result (λ _. row_gate (view F.Fabric.marks row.now) ≡ None) (λ e. row_gate (view F.Fabric.marks row.now) ≡ Some e) }
 {
     if row.len() < 2 || row.len() > 255 {
         return Err(RingFault::Count);
@@ -33,13 +30,25 @@ pub(crate) fn open<F: Fabric + Copy>(
     if !is_lawful_row(row) {
         return Err(RingFault::Unlawful);
     }
+    Ok(())
+}
+
+// 16: the node and the fabric of a station, in a row that was checked.
+pub(crate) fn enter<F: Fabric + Copy>(
+    row: &[Station<F>],
+    station: usize,
+) -> Result<(Node, F), RingFault>
+    requires { row_gate (view F.Fabric.marks row.now) ≡ None }
+    ensures answer { Results.MatchResult result (λ x. Opened F.Fabric.marks row.now station x.0.values x.1) (λ e. gate (view F.Fabric.marks row.now) station ≡ Some e) }
+    ensures own { IfOk result (λ x. (d : Station F) → (slice_index_or row.now station d).fabric ≡ x.1) }
+{
     if station >= row.len() {
         return Err(RingFault::NoStation);
     }
     let at = row[station];
     match Node::from_values(at.values) {
         Some(node) => Ok((node, at.fabric)),
-        None => Err(RingFault::Unlawful),
+        None => unreachable(),
     }
 }
 

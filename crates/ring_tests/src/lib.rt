@@ -6,7 +6,7 @@ mod tests {
     use fabric::RegisterFabric;
     use frame::{Body, Channel, Message, NodeId, Request, write_frame};
     use node::{Node, Port, Role, Settings, State};
-    use ring::{RingRefusal, Station, clear, deliver, fail, status, tick};
+    use ring::{RingRefusal, Station, clear, deliver, fail, set_up, status, survivor, tick, ticks};
     use std::test::Fail;
 
     type Row = [Station<RegisterFabric>; 3];
@@ -139,5 +139,66 @@ mod tests {
             },
             Err(_) => Err(Fail::new("status")),
         }
+    }
+
+    // The station of the answer; none is told as 99.
+    fn who(answer: Result<Option<usize>, RingRefusal>) -> usize {
+        match answer {
+            Ok(Some(station)) => station,
+            _ => 99,
+        }
+    }
+
+    // 14, 13 and 15 leave the row; then each station has its own settings and blocks port 0.
+    #[test]
+    fn a_row_is_set_up(rt: HostRuntime) -> Result<(), Fail> {
+        let mut row = new_row()?;
+        let good = [
+            settings(2, Role::Other),
+            settings(8, Role::Owner),
+            settings(6, Role::Other),
+        ];
+        let odd = [good[0], settings(0x0A, Role::Owner), good[1]];
+        assert_eq!(rt; number(set_up(&mut row, &good[0..2])), (14, None, None));
+        let mut out_of_range = good;
+        out_of_range[1].mel = 8;
+        assert_eq!(rt;
+            number(set_up(&mut row, &out_of_range)),
+            (13, Some(1), None)
+        );
+        assert_eq!(rt; number(set_up(&mut row, &odd)), (15, None, None));
+        assert_eq!(rt; row[0].values.settings.id.octets[5], 1);
+        assert_eq!(rt; number(set_up(&mut row, &good)), (0, None, None));
+        assert_eq!(rt; row[0].values.settings.id.octets[5], 2);
+        assert_eq!(rt; row[2].values.settings.id.octets[5], 6);
+        assert_eq!(rt; row[1].fabric.word, 0x8000_0000);
+        Ok(())
+    }
+
+    // All three send NR and 9 is the highest; with a failure it sends SF, and 5 is.
+    #[test]
+    fn the_highest_survives(rt: HostRuntime) -> Result<(), Fail> {
+        let mut row = new_row()?;
+        assert_eq!(rt; who(survivor(&row)), 2);
+        assert_eq!(rt; number(fail(&mut row, 2, 1)), (0, None, None));
+        assert_eq!(rt; who(survivor(&row)), 1);
+        let alone = [station(1, Role::Owner)?];
+        assert_eq!(rt; who(survivor(&alone)), 99);
+        Ok(())
+    }
+
+    // WTR runs for five minutes: 30000 ticks at the owner, made in two parts.
+    #[test]
+    fn many_ticks(rt: HostRuntime) -> Result<(), Fail> {
+        let mut row = new_row()?;
+        assert_eq!(rt; number(ticks(&mut row, 0, 0)), (0, None, None));
+        assert_eq!(rt; row[0].values.timers.wtr, 30_000);
+        assert_eq!(rt; number(ticks(&mut row, 0, 29_999)), (0, None, None));
+        assert_eq!(rt; row[0].values.timers.wtr, 1);
+        assert!(rt; matches!(row[0].values.state, State::Pending));
+        assert_eq!(rt; number(ticks(&mut row, 0, 1)), (0, None, None));
+        assert!(rt; matches!(row[0].values.state, State::Idle));
+        assert_eq!(rt; number(ticks(&mut row, 3, 2)), (16, None, None));
+        Ok(())
     }
 }

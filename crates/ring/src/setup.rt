@@ -1,0 +1,85 @@
+// The set-up of a row, and the law of whatever comes of it.
+ghost use Rattle.std.specs.Prelude.{◌≡◌, ℕ, ◌<◌, true, not, length, OnOk, slice_set};
+ghost use Rattle.frame.specs.Highest.{first_with};
+ghost use Rattle.node.specs.Rules.{settings_ok};
+ghost use Rattle.ring.specs.Calls.{Keeps};
+ghost use Rattle.ring.specs.Faults.{told_ring};
+ghost use Rattle.ring.specs.Row.{seat, setting, view};
+ghost use Rattle.ring.specs.Runs.{Law};
+ghost use Rattle.ring.specs.SetUp.{SetsUp, fresh};
+
+use crate::faults::{RingFault, RingRefusal};
+use crate::lawful::are_lawful;
+use crate::opening::nowhere;
+use crate::resting::node_laws;
+use crate::station::Station;
+use fabric::Fabric;
+use node::{Node, NodeFault, Settings, settings_ok};
+
+// 13: the first station whose settings are out of range.
+fn first_at_fault(settings: &[Settings]) -> Option<usize>
+    ensures { result ≡ first_with (λ g. not (settings_ok g)) settings.now }
+{
+    for k in 0..settings.len() {
+        if !settings_ok(settings[k]) {
+            return Some(k);
+        }
+    }
+    None
+}
+
+fn start_one<F: Fabric + Copy>(row: &mut [Station<F>], k: usize, settings: Settings)
+    requires within { k < length row.old }
+    requires range { settings_ok settings ≡ true }
+    ensures seen { view F.Fabric.marks row.new ≡ slice_set (view F.Fabric.marks row.old) k (fresh (seat (view F.Fabric.marks row.old) k) settings) }
+    ensures host { Keeps F.Fabric.kept row.old row.new }
+{
+    let at = row[k];
+    let mut fabric = at.fabric;
+    match Node::set_up(settings, &mut fabric) {
+        Ok(node) => {
+            row[k] = Station {
+                values: node.values,
+                fabric,
+            };
+        }
+        Err(_) => unreachable(),
+    }
+}
+
+fn start_all<F: Fabric + Copy>(row: &mut [Station<F>], settings: &[Settings])
+    requires count { length settings.now ≡ length row.old }
+    requires range { (k : ℕ) → k < length row.old → settings_ok (setting settings.now k) ≡ true }
+    ensures seen { (k : ℕ) → k < length row.old → seat (view F.Fabric.marks row.new) k ≡ fresh (seat (view F.Fabric.marks row.old) k) (setting settings.now k) }
+    ensures host { Keeps F.Fabric.kept row.old row.new }
+{
+    for k in 0..row.len() {
+        start_one(row, k, settings[k]);
+    }
+}
+
+// Sets every station up anew, or none. Whatever calls the row then receives, the law of runs holds.
+pub fn set_up<F: Fabric + Copy>(
+    row: &mut [Station<F>],
+    settings: &[Settings],
+) -> Result<(), RingRefusal>
+    ensures does { SetsUp F.Fabric.marks F.Fabric.kept settings.now row.old (told_ring result) row.new }
+    ensures law { OnOk result (Law F.Fabric.marks row.new) }
+{
+    node_laws();
+    if row.len() < 2 || row.len() > 255 || settings.len() != row.len() {
+        return Err(nowhere(RingFault::Count));
+    }
+    if let Some(station) = first_at_fault(settings) {
+        return Err(RingRefusal {
+            station: Some(station),
+            port: None,
+            cause: RingFault::Node(NodeFault::Settings),
+        });
+    }
+    if !are_lawful(settings) {
+        return Err(nowhere(RingFault::Unlawful));
+    }
+    start_all(row, settings);
+    Ok(())
+}

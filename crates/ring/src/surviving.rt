@@ -1,0 +1,64 @@
+// The survivor question: the station with the highest ID among those that send NR.
+ghost use Rattle.std.specs.Prelude.{◌≡◌, ◌<◌, length, None};
+ghost use Rattle.frame.specs.Refusals.{gave};
+ghost use Rattle.ring.specs.Calls.{row_gate};
+ghost use Rattle.ring.specs.Faults.{told_ring};
+ghost use Rattle.ring.specs.Row.{view};
+ghost use Rattle.ring.specs.Survivor.{SurvivorLaw, nr_rank, ring_survivor, sends_nr, survivor_of, ring_values};
+
+use crate::faults::RingRefusal;
+use crate::opening::{check, nowhere};
+use crate::station::Station;
+use fabric::Fabric;
+use frame::{Ranked, Request, highest};
+use node::NodeValues;
+
+fn sends_nr(values: NodeValues) -> bool
+    ensures { result ≡ sends_nr values }
+{
+    matches!(values.sending.request, Some(Request::NoRequest))
+}
+
+// Stations that send NR rank by their IDs, above all others.
+impl<F> Ranked for Station<F> {
+    ghost rank = { λ s. nr_rank s.values };
+
+    fn outranks(&self, other: &Station<F>) -> bool {
+        let own = self.values;
+        let far = other.values;
+        sends_nr(own) & (!sends_nr(far) | (far.settings.id.number() < own.settings.id.number()))
+    }
+}
+
+// Of those that send NR the one that stands highest.
+fn find_survivor<F: Fabric>(row: &[Station<F>]) -> Option<usize>
+    ensures value { result ≡ survivor_of (ring_values (view F.Fabric.marks row.now)) }
+    ensures law { SurvivorLaw (view F.Fabric.marks row.now) (gave result) }
+{
+    let station = highest(row)?;
+    if sends_nr(row[station].values) {
+        Some(station)
+    } else {
+        None
+    }
+}
+
+// The same in a row that was checked.
+pub(crate) fn act_survivor<F: Fabric>(row: &[Station<F>]) -> Result<Option<usize>, RingRefusal>
+    requires { row_gate (view F.Fabric.marks row.now) ≡ None }
+    ensures answer { told_ring result ≡ ring_survivor (view F.Fabric.marks row.now) }
+    ensures law { SurvivorLaw (view F.Fabric.marks row.now) (told_ring result) }
+{
+    Ok(find_survivor(row))
+}
+
+// The number of the station with the highest Node ID among those that send NR, or none.
+pub fn survivor<F: Fabric>(row: &[Station<F>]) -> Result<Option<usize>, RingRefusal>
+    ensures answer { told_ring result ≡ ring_survivor (view F.Fabric.marks row.now) }
+    ensures law { SurvivorLaw (view F.Fabric.marks row.now) (told_ring result) }
+{
+    match check(row) {
+        Ok(()) => act_survivor(row),
+        Err(cause) => Err(nowhere(cause)),
+    }
+}

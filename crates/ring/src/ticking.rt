@@ -1,0 +1,37 @@
+// Many ticks at a station; the row is checked once.
+ghost use Rattle.std.specs.Prelude.{◌≡◌};
+ghost use Rattle.ring.specs.Calls.{Keeps, Ticks};
+ghost use Rattle.ring.specs.Faults.{told_ring};
+
+use crate::asking::{StationCall, act};
+use crate::faults::RingRefusal;
+use crate::opening::{check, nowhere};
+use crate::resting::node_laws;
+use crate::station::Station;
+use fabric::Fabric;
+
+// So many ticks one after the other; the answer is the last one's. A tick that is refused leaves all as it is, so that every
+// further one would be refused alike and need not be made.
+pub fn ticks<F: Fabric + Copy>(
+    row: &mut [Station<F>],
+    station: usize,
+    count: u32,
+) -> Result<(), RingRefusal>
+    ensures does { Ticks F.Fabric.marks station count row.old (told_ring result) row.new }
+    ensures host { Keeps F.Fabric.kept row.old row.new }
+{
+    node_laws();
+    if count == 0 {
+        return Ok(());
+    }
+    if let Err(cause) = check(row) {
+        return Err(nowhere(cause));
+    }
+    for _ in 1..count {
+        let answer = act(row, station, StationCall::Tick, &[]);
+        if answer.is_err() {
+            return answer;
+        }
+    }
+    act(row, station, StationCall::Tick, &[])
+}
