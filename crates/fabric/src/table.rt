@@ -11,7 +11,7 @@ use super::fabric::Fabric;
 use super::records::{Sought, first, free_ring, has, put, side};
 use super::types::{FabricFault, Ports};
 
-// An Ethernet address. Its `==` is written out, since a derived one would promise nothing of an array.
+// An Ethernet address. Its `==` is written out, by a definition of ours that names the six octets.
 #[derive(Clone, Copy, Debug)]
 pub struct Address {
     pub octets: [u8; 6],
