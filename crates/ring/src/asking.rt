@@ -1,4 +1,4 @@
-// What a station is asked: one text for all calls at a station.
+// What a station is asked: one text for all calls at a station that may move it and answer no value.
 ghost use Rattle.std.specs.Prelude.{◌≡◌, None};
 ghost use Rattle.ring.specs.Asked.{asked, called_port};
 ghost use Rattle.ring.specs.Calls.{Does, Keeps, call, row_gate, step_of};

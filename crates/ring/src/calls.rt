@@ -1,12 +1,12 @@
 // The calls of a ring at a station: the row is checked, and one station is read, asked, and written whole.
 ghost use Rattle.std.specs.Prelude.{◌≡◌, None};
-ghost use Rattle.ring.specs.Calls.{Does, Keeps, call, clear, deliver, fail, force, frame as frame_into, repair, restart, ring_buffer, ring_status, row_gate, status, switch, tick, unit_of};
+ghost use Rattle.ring.specs.Calls.{Does, Keeps, call, clear, deliver, fail, force, frame as frame_into, repair, restart, ring_buffer, ring_status, status, switch, tick, unit_of};
 ghost use Rattle.ring.specs.Faults.{told_ring};
 ghost use Rattle.ring.specs.Row.{view};
 
 use crate::asking::{StationCall, perform};
 use crate::faults::RingRefusal;
-use crate::opening::{check, close, enter, held, nowhere};
+use crate::opening::{close, held, nowhere, open};
 use crate::station::Station;
 use fabric::Fabric;
 use node::Status;
@@ -96,18 +96,17 @@ pub fn deliver<F: Fabric + Copy>(
     perform(row, station, StationCall::Deliver(port), octets)
 }
 
-// The frame request, in a row that was checked.
-pub(crate) fn act_frame<F: Fabric + Copy>(
+// The frame that is due at a station, into the buffer's first 55 octets.
+pub fn take_frame<F: Fabric + Copy>(
     row: &mut [Station<F>],
     station: usize,
     buffer: &mut [u8],
 ) -> Result<(), RingRefusal>
-    requires { row_gate (view F.Fabric.marks row.old) ≡ None }
     ensures does { Does F.Fabric.marks (call station (frame_into buffer.old)) row.old (told_ring result) row.new }
     ensures host { Keeps F.Fabric.kept row.old row.new }
     ensures left { buffer.new ≡ ring_buffer (view F.Fabric.marks row.old) station buffer.old }
 {
-    let (mut node, fabric) = match enter(row, station) {
+    let (mut node, fabric) = match open(row, station) {
         Ok(at) => at,
         Err(cause) => return Err(nowhere(cause)),
     };
@@ -119,44 +118,13 @@ pub(crate) fn act_frame<F: Fabric + Copy>(
     close(row, station, None, after, answer)
 }
 
-// The frame that is due at a station, into the buffer's first 55 octets.
-pub fn take_frame<F: Fabric + Copy>(
-    row: &mut [Station<F>],
-    station: usize,
-    buffer: &mut [u8],
-) -> Result<(), RingRefusal>
-    ensures does { Does F.Fabric.marks (call station (frame_into buffer.old)) row.old (told_ring result) row.new }
-    ensures host { Keeps F.Fabric.kept row.old row.new }
-    ensures left { buffer.new ≡ ring_buffer (view F.Fabric.marks row.old) station buffer.old }
-{
-    match check(row) {
-        Ok(()) => act_frame(row, station, buffer),
-        Err(cause) => Err(nowhere(cause)),
-    }
-}
-
-// The status question, in a row that was checked.
-pub(crate) fn act_status<F: Fabric + Copy>(
-    row: &[Station<F>],
-    station: usize,
-) -> Result<Status, RingRefusal>
-    requires { row_gate (view F.Fabric.marks row.now) ≡ None }
-    ensures answer { told_ring result ≡ ring_status (view F.Fabric.marks row.now) station }
-    ensures does { Does F.Fabric.marks (call station status) row.now (unit_of (told_ring result)) row.now }
-{
-    match enter(row, station) {
-        Ok((node, _)) => Ok(node.status()),
-        Err(cause) => Err(nowhere(cause)),
-    }
-}
-
 // What a station's node holds but the flush pairs; changes nothing.
 pub fn status<F: Fabric + Copy>(row: &[Station<F>], station: usize) -> Result<Status, RingRefusal>
     ensures answer { told_ring result ≡ ring_status (view F.Fabric.marks row.now) station }
     ensures does { Does F.Fabric.marks (call station status) row.now (unit_of (told_ring result)) row.now }
 {
-    match check(row) {
-        Ok(()) => act_status(row, station),
+    match open(row, station) {
+        Ok((node, _)) => Ok(node.status()),
         Err(cause) => Err(nowhere(cause)),
     }
 }

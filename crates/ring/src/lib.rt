@@ -16,7 +16,6 @@ mod station;
 mod surviving;
 mod ticking;
 
-pub use asking::StationCall;
 pub use calls::{clear, deliver, fail, force, repair, restart, status, switch, take_frame, tick};
 pub use faults::{RingFault, RingRefusal};
 pub use setup::set_up;

@@ -52,6 +52,20 @@ pub(crate) fn enter<F: Fabric + Copy>(
     }
 }
 
+// 14, 15, 16: the node and the fabric of a station, where the row is lawful and has it.
+pub(crate) fn open<F: Fabric + Copy>(
+    row: &[Station<F>],
+    station: usize,
+) -> Result<(Node, F), RingFault>
+    ensures answer { Results.MatchResult result (λ x. Opened F.Fabric.marks row.now station x.0.values x.1) (λ e. gate (view F.Fabric.marks row.now) station ≡ Some e) }
+    ensures own { IfOk result (λ x. (d : Station F) → (slice_index_or row.now station d).fabric ≡ x.1) }
+{
+    match check(row) {
+        Ok(()) => enter(row, station),
+        Err(cause) => Err(cause),
+    }
+}
+
 // A refusal that names no place.
 pub(crate) fn nowhere(cause: RingFault) -> RingRefusal
     ensures station { result.station ≡ None }

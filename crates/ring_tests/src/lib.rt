@@ -141,24 +141,22 @@ mod tests {
         }
     }
 
-    // The station of the answer; none is told as 99.
-    fn who(answer: Result<Option<usize>, RingRefusal>) -> usize {
+    // The station of the answer, or the number of the refusal.
+    fn who(answer: Result<Option<usize>, RingRefusal>) -> Result<Option<usize>, u8> {
         match answer {
-            Ok(Some(station)) => station,
-            _ => 99,
+            Ok(station) => Ok(station),
+            Err(refusal) => Err(refusal.cause.number()),
         }
     }
 
-    // 14, 13 and 15 leave the row; then each station has its own settings and blocks port 0.
+    // 14, 13 and 15 leave the row; then each station has its own settings, the owner blocks its RPL port 1, all others port 0.
     #[test]
     fn a_row_is_set_up(rt: HostRuntime) -> Result<(), Fail> {
         let mut row = new_row()?;
-        let good = [
-            settings(2, Role::Other),
-            settings(8, Role::Owner),
-            settings(6, Role::Other),
-        ];
-        let odd = [good[0], settings(0x0A, Role::Owner), good[1]];
+        let mut owner = settings(8, Role::Owner);
+        owner.rpl = Port::One;
+        let good = [settings(2, Role::Other), owner, settings(6, Role::Other)];
+        let two_owners = [good[0], settings(0x0A, Role::Owner), good[1]];
         assert_eq!(rt; number(set_up(&mut row, &good[0..2])), (14, None, None));
         let mut out_of_range = good;
         out_of_range[1].mel = 8;
@@ -166,24 +164,31 @@ mod tests {
             number(set_up(&mut row, &out_of_range)),
             (13, Some(1), None)
         );
-        assert_eq!(rt; number(set_up(&mut row, &odd)), (15, None, None));
+        assert_eq!(rt; number(set_up(&mut row, &two_owners)), (15, None, None));
         assert_eq!(rt; row[0].values.settings.id.octets[5], 1);
+        assert_eq!(rt; row[1].fabric.word, 0x8000_0000);
         assert_eq!(rt; number(set_up(&mut row, &good)), (0, None, None));
         assert_eq!(rt; row[0].values.settings.id.octets[5], 2);
+        assert_eq!(rt; row[1].values.settings.id.octets[5], 8);
         assert_eq!(rt; row[2].values.settings.id.octets[5], 6);
-        assert_eq!(rt; row[1].fabric.word, 0x8000_0000);
+        assert_eq!(rt; row[0].fabric.word, 0x8000_0000);
+        assert_eq!(rt; row[1].fabric.word, 0x4000_0000);
+        assert_eq!(rt; row[2].fabric.word, 0x8000_0000);
         Ok(())
     }
 
-    // All three send NR and 9 is the highest; with a failure it sends SF, and 5 is.
+    // All three send NR and 9 is the highest; with a failure it sends SF, and 5 is; at last all send SF, and none is.
     #[test]
     fn the_highest_survives(rt: HostRuntime) -> Result<(), Fail> {
         let mut row = new_row()?;
-        assert_eq!(rt; who(survivor(&row)), 2);
+        assert_eq!(rt; who(survivor(&row)), Ok(Some(2)));
         assert_eq!(rt; number(fail(&mut row, 2, 1)), (0, None, None));
-        assert_eq!(rt; who(survivor(&row)), 1);
+        assert_eq!(rt; who(survivor(&row)), Ok(Some(1)));
+        assert_eq!(rt; number(fail(&mut row, 1, 1)), (0, None, None));
+        assert_eq!(rt; number(fail(&mut row, 0, 1)), (0, None, None));
+        assert_eq!(rt; who(survivor(&row)), Ok(None));
         let alone = [station(1, Role::Owner)?];
-        assert_eq!(rt; who(survivor(&alone)), 99);
+        assert_eq!(rt; who(survivor(&alone)), Err(14));
         Ok(())
     }
 

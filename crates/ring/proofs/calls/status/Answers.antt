@@ -4,7 +4,7 @@ use Rattle.node.specs.Calls.{status_of}
 use Rattle.ring.specs.Calls.{status_if}
 use Rattle.ring.specs.Row.{view, seat}
 use Rattle.ring.proofs.Doing.{looks}
-use Rattle.ring.proofs.calls.act_status.Goals as goal
+use Rattle.ring.proofs.calls.status.Goals as goal
 
 pub returns-in-Ok : goal.returns-in-Ok
 returns-in-Ok g c =
