@@ -1,7 +1,9 @@
 -- The first best of a list is its first place of the highest rank. Assumes nothing.
-use Rattle.std.proofs.Common.{◌≡◌, ℕ, zero, suc, ◌<◌, ◌≤◌, Bool, true, false, eqb, ltb, List, [], ◌∷◌, length, get_or, Some, None, sym, refl, ap, ◌∙◌, suc-le-suc, zero-le, le_of_suc-le-suc, arith}
+use Rattle.std.proofs.Common.{◌≡◌, ℕ, zero, suc, ◌+◌, ◌<◌, ◌≤◌, Bool, true, false, eqb, ltb, List, [], ◌∷◌, length, get_or, Some, None, sym, refl, ap, ◌∙◌, suc-le-suc, zero-le, le_of_suc-le-suc, add-one, arith}
 use Rattle.std.specs.Option.{option_map}
+use Rattle.std.specs.Cmp.{IsStrictWeakOrder}
 use Rattle.std.specs.List.{IsFirstBest}
+use Rattle.std.proofs.lemmas.List.MinMax.{IsFirstBest-keeps, IsFirstBest-none, IsFirstBest-takes, IsStrictWeakOrder-by_number, IsStrictWeakOrder-flip}
 use Rattle.std.proofs.lemmas.Bool.{ltb-false, ltb-true, eq-eqb, ne_eqb, cond-true, cond-false}
 use Rattle.frame.specs.Highest.{highest_rank, first_with, first_highest, HighestAt}
 
@@ -28,6 +30,41 @@ first_at test (x ∷ xs) d (suc b) l t f =
 abbrev pub over : {X : Type 0} → (X → ℕ) → X → X → Bool
 over rank x y = ltb (rank y) (rank x)
 
+order : {X : Type 0} (rank : X → ℕ) → IsStrictWeakOrder (over rank)
+order rank = IsStrictWeakOrder-flip _ (IsStrictWeakOrder-by_number rank)
+
+-- so many have been looked at when the walk is at i: the first stands as the best from the start
+abbrev pub seen : ℕ → ℕ
+seen zero = 1
+seen (suc n) = suc n
+
+pub seen_next : (i : ℕ) → seen (i + 1) ≡ i + 1
+seen_next zero = refl
+seen_next (suc n) = rw add-one refl
+
+pub starts : {X : Type 0} (rank : X → ℕ) (xs : List X) → IsFirstBest (over rank) xs (seen 0) 0
+starts rank xs = IsFirstBest-none (order rank) xs
+
+pub stays : {X : Type 0} (rank : X → ℕ) (xs : List X) (i b : ℕ) (x y : X) → IsFirstBest (over rank) xs (seen i) b → i < length xs
+    → x ≡ get_or xs i x → y ≡ get_or xs b y → over rank x y ≡ false → IsFirstBest (over rank) xs (seen (i + 1)) b
+stays rank xs zero b x y h l p q f = h
+stays rank xs (suc n) b x y h l p q f = rw (seen_next (suc n)) (IsFirstBest-keeps (order rank) xs (suc n) b x y h l p q f)
+
+pub moves : {X : Type 0} (rank : X → ℕ) (xs : List X) (i b : ℕ) (x y : X) → IsFirstBest (over rank) xs (seen i) b → i < length xs
+    → x ≡ get_or xs i x → y ≡ get_or xs b y → over rank x y ≡ true → IsFirstBest (over rank) xs (seen (i + 1)) i
+moves rank xs zero b x y h l p q f = starts rank xs
+moves rank xs (suc n) b x y h l p q f = rw (seen_next (suc n)) (IsFirstBest-takes (order rank) xs (suc n) b x y h l p q f)
+
+seen_all : (i n : ℕ) → n ≤ i → i ≤ n → false ≡ eqb n 0 → seen i ≡ n
+seen_all i zero l m e = cc
+seen_all zero (suc n) l m e = absurd (omega arith)
+seen_all (suc i) (suc n) l m e = omega arith
+
+-- where the walk ends, all have been looked at
+pub all_seen : {X : Type 0} (rank : X → ℕ) (xs : List X) (i b : ℕ) → length xs ≤ i → i ≤ length xs → false ≡ eqb (length xs) 0
+    → IsFirstBest (over rank) xs (seen i) b → IsFirstBest (over rank) xs (length xs) b
+all_seen rank xs i b l m e h = rw (seen_all i (length xs) l m e) at h
+
 best_with_default : {X : Type 0} (rank : X → ℕ) (xs : List X) (d : X) (b : ℕ) → b < length xs
     → IsFirstBest (over rank) xs (length xs) b → first_highest rank xs ≡ Some b
 unfolding first_highest
@@ -39,22 +76,17 @@ best_with_default rank xs d b l h =
     first_at (λ x. eqb (rank x) (highest_rank rank xs)) xs d b l (eq-eqb _ _ same)
     (λ k m. ne_eqb _ _ (λ e. omega (arith, ltb-true _ _ (h.2 k d m), e)))
 
-pub first_best_is : {X : Type 0} (rank : X → ℕ) (xs : List X) (i b : ℕ) → i ≡ length xs → IsFirstBest (over rank) xs i b
+pub first_best_is : {X : Type 0} (rank : X → ℕ) (xs : List X) (b : ℕ) → IsFirstBest (over rank) xs (length xs) b
     → Some b ≡ first_highest rank xs
-first_best_is rank [] i b e h = absurd (omega (arith, h.0))
-first_best_is rank (x ∷ xs) i b e h =
-    let whole : IsFirstBest (over rank) (x ∷ xs) (length (x ∷ xs)) b = rw e at h in
-    sym (best_with_default rank (x ∷ xs) x b whole.0 whole)
+first_best_is rank [] b h = absurd (omega (arith, h.0))
+first_best_is rank (x ∷ xs) b h = sym (best_with_default rank (x ∷ xs) x b h.0 h)
 
-pub first_best_law : {X : Type 0} (rank : X → ℕ) (xs : List X) (i b : ℕ) → i ≡ length xs → b < length xs
-    → IsFirstBest (over rank) xs i b → HighestAt rank xs b
-first_best_law rank xs i b e l h =
-    let whole : IsFirstBest (over rank) xs (length xs) b = rw e at h in
-    record {
-      within = l;
-      none_higher = λ k d m. ltb-false _ _ (whole.1 k d m);
-      first = λ k d m. ltb-true _ _ (whole.2 k d m);
-    }
+pub first_best_law : {X : Type 0} (rank : X → ℕ) (xs : List X) (b : ℕ) → IsFirstBest (over rank) xs (length xs) b → HighestAt rank xs b
+first_best_law rank xs b h = record {
+  within = h.0;
+  none_higher = λ k d m. ltb-false _ _ (h.1 k d m);
+  first = λ k d m. ltb-true _ _ (h.2 k d m);
+}
 
 pub none_is : {X : Type 0} (rank : X → ℕ) (xs : List X) → length xs ≡ 0 → None ≡ first_highest rank xs
 unfolding first_highest

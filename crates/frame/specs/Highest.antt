@@ -7,6 +7,11 @@ abbrev pub highest_rank : {X : Type 0} → (X → ℕ) → List X → ℕ
 highest_rank rank [] = 0
 highest_rank rank (x ∷ xs) = max (rank x) (highest_rank rank xs)
 
+-- an empty place ranks below all
+abbrev pub option_rank : {X : Type 0} → (X → ℕ) → Option X → ℕ
+option_rank rank None = 0
+option_rank rank (Some x) = suc (rank x)
+
 -- the place of the first that passes the test
 abbrev pub first_with : {X : Type 0} → (X → Bool) → List X → Option ℕ
 first_with test [] = None

@@ -1,6 +1,6 @@
 // The choice of the highest: one text for every type that has a rank.
 ghost use Rattle.std.specs.Prelude.{◌≡◌, ℕ, length, MatchOption, nat_lt};
-ghost use Rattle.frame.specs.Highest.{HighestAt, first_highest};
+ghost use Rattle.frame.specs.Highest.{HighestAt, first_highest, option_rank};
 
 // An order given by a rank.
 pub trait Ranked {
@@ -9,6 +9,19 @@ pub trait Ranked {
     // Whether this one stands higher.
     fn outranks(&self, other: &Self) -> bool
         ensures { result ≡ nat_lt (rank other.now) (rank self.now) };
+}
+
+// An empty place stands below all.
+impl<T: Ranked> Ranked for Option<T> {
+    ghost rank = { λ o. option_rank T.rank o };
+
+    fn outranks(&self, other: &Option<T>) -> bool {
+        match (self, other) {
+            (Some(own), Some(far)) => own.outranks(far),
+            (Some(_), None) => true,
+            (None, _) => false,
+        }
+    }
 }
 
 // The place of the highest, among equals the first; none of an empty slice.
@@ -20,8 +33,8 @@ pub fn highest<T: Ranked>(items: &[T]) -> Option<usize>
         return None;
     }
     let mut best = 0;
-    for i in 1..items.len() {
-        if items[i].outranks(&items[best]) {
+    for (i, item) in items.iter().enumerate() {
+        if item.outranks(&items[best]) {
             best = i;
         }
     }

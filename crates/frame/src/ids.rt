@@ -1,4 +1,5 @@
-// Node IDs compare as numbers.
+// Node IDs compare as numbers. (An order derived from the octets was tried: that each is below 256 is not known to a proof
+// where an ID lies inside other values, so that it could not be shown to be the order of the numbers.)
 ghost use Rattle.std.specs.Prelude.{◌≡◌};
 ghost use Rattle.frame.specs.Highest.{first_highest};
 ghost use Rattle.frame.specs.Ids.{id_number};
@@ -6,13 +7,22 @@ ghost use Rattle.frame.specs.Ids.{id_number};
 use super::choice::{Ranked, highest};
 use super::types::NodeId;
 
+// The octets as one number, the first highest.
+impl From<NodeId> for u64 {
+    ghost from_gives = { λ id n. n ≡ id_number id };
+
+    #[tactic(auto, unfolding(crate::specs::Ids::id_number))]
+    fn from(id: NodeId) -> u64 {
+        let [a, b, c, d, e, f] = id.octets;
+        u64::from_be_bytes([0, 0, a, b, c, d, e, f])
+    }
+}
+
 impl NodeId {
-    // The octets as one number, the first highest.
     pub fn number(self) -> u64
         ensures { result ≡ id_number self }
     {
-        let [a, b, c, d, e, f] = self.octets;
-        u64::from_be_bytes([0, 0, a, b, c, d, e, f])
+        u64::from(self)
     }
 }
 
@@ -20,7 +30,7 @@ impl Ranked for NodeId {
     ghost rank = { id_number };
 
     fn outranks(&self, other: &NodeId) -> bool {
-        other.number() < self.number()
+        u64::from(*other) < u64::from(*self)
     }
 }
 

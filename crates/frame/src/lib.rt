@@ -12,6 +12,6 @@ mod writing;
 pub use choice::{Ranked, highest};
 pub use ids::highest_id;
 pub use reading::read_frame;
-pub use types::{Body, Channel, FrameFault, Message, NodeId, Request};
+pub use types::{Body, Channel, FRAME_LENGTH, FrameFault, Message, NodeId, Request};
 pub use worked::worked_frame;
 pub use writing::{is_in_range, write_frame};

@@ -4,16 +4,12 @@ ghost use Rattle.frame.specs.declared.types.FrameFault.TheVariants.{Header};
 ghost use Rattle.frame.specs.Faults.{told};
 ghost use Rattle.frame.specs.Reading.{bit, body_of, body_reading, first_difference, header_reading, pdu_reading, reading, request_of};
 
-use super::types::{Body, Channel, FrameFault, Message, NodeId, Request};
-
-const FRAME_LENGTH: usize = 55;
+use super::types::{Body, Channel, EVENT, FRAME_LENGTH, FrameFault, Message, NodeId, Request};
 
 const OPCODE: u8 = 0x28;
 
 // The least TLV offset: the 32 octets of the R-APS data.
 const LEAST_TLV_OFFSET: u8 = 32;
-
-const EVENT: u8 = 14;
 
 // The message of a frame, or why it is refused. Nothing past octet 54 is looked at but the frame's length.
 pub fn read_frame(frame: &[u8], channel: Channel) -> Result<Message, FrameFault>

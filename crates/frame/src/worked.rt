@@ -3,11 +3,12 @@ ghost use Rattle.std.specs.Prelude.{◌≡◌};
 ghost use Rattle.frame.specs.Worked.{WorkedFrame, worked_channel, worked_message};
 ghost use Rattle.frame.specs.Writing.{frame_octets};
 
-use super::types::{Body, Channel, Message, NodeId, Request};
+use super::types::{Body, Channel, FRAME_LENGTH, Message, NodeId, Request};
 use super::writing::write_frame;
 
 // SF with BPR 1 from 00-00-5E-00-53-01, on ring 1 and VID 100, at MEL 7.
-pub fn worked_frame() -> [u8; 55]
+#[tactic(auto, unfolding(crate::specs::Writing::frame_octets, crate::specs::Writing::head_octets, crate::specs::Ids::id_number))]
+pub fn worked_frame() -> [u8; FRAME_LENGTH]
     ensures octets { result ≡ frame_octets worked_message worked_channel 7 }
     ensures worked { WorkedFrame }
 {
@@ -25,7 +26,7 @@ pub fn worked_frame() -> [u8; 55]
         ring_id: 1,
         vid: 100,
     };
-    let mut buffer = [0; 55];
+    let mut buffer = [0; FRAME_LENGTH];
     let _ = write_frame(message, channel, 7, &mut buffer);
     buffer
 }

@@ -8,11 +8,7 @@ ghost use Rattle.frame.specs.Requests.{coded};
 ghost use Rattle.frame.specs.Rewriting.{Rewritten};
 ghost use Rattle.frame.specs.Writing.{frame_octets, head_octets, in_range, request_octet, status_octet, writing, written};
 
-use super::types::{Body, Channel, FrameFault, Message, NodeId, Request};
-
-const FRAME_LENGTH: usize = 55;
-
-const EVENT: u8 = 14;
+use super::types::{Body, Channel, EVENT, FRAME_LENGTH, FrameFault, Message, NodeId, Request};
 
 // Writes the message's frame into the buffer's first 55 octets; a refusal leaves the buffer as it was.
 pub fn write_frame(
@@ -32,7 +28,7 @@ pub fn write_frame(
     if buffer.len() < FRAME_LENGTH {
         return Err(FrameFault::Buffer);
     }
-    buffer[0..55].copy_from_slice(&frame_octets(message, channel, mel));
+    buffer[0..FRAME_LENGTH].copy_from_slice(&frame_octets(message, channel, mel));
     Ok(())
 }
 
@@ -52,27 +48,28 @@ pub fn is_in_range(node: NodeId, channel: Channel, mel: u8) -> bool
 fn is_station(node: NodeId) -> bool
     ensures { result ≡ id_in_range node }
 {
-    1 <= node.number() && node.octets[0] % 2 == 0
+    1 <= u64::from(node) && node.octets[0] % 2 == 0
 }
 
 // The 55 octets of the message's frame: what follows the Node ID is zero.
-fn frame_octets(message: Message, channel: Channel, mel: u8) -> [u8; 55]
+#[tactic(auto, unfolding(crate::specs::Writing::frame_octets))]
+fn frame_octets(message: Message, channel: Channel, mel: u8) -> [u8; FRAME_LENGTH]
     requires { (channel.vid < 4096) × (mel < 8) }
     ensures { result ≡ frame_octets message channel mel }
 {
-    let mut octets = [0; 55];
-    octets[0..30].copy_from_slice(&head_octets(message, channel, mel));
+    let mut octets = [0; FRAME_LENGTH];
+    octets[..30].copy_from_slice(&head_octets(message, channel, mel));
     octets
 }
 
 // The octets up to the Node ID's end.
+#[tactic(auto, unfolding(crate::specs::Writing::head_octets))]
 fn head_octets(message: Message, channel: Channel, mel: u8) -> [u8; 30]
     requires { (channel.vid < 4096) × (mel < 8) }
     ensures { result ≡ head_octets message channel mel }
 {
     let [a, b, c, d, e, f] = message.node.octets;
-    let vid_high = (channel.vid / 256) as u8;
-    let vid_low = (channel.vid % 256) as u8;
+    let [vid_high, vid_low] = channel.vid.to_be_bytes();
     let request = request_octet(message.body);
     let status = status_octet(message.body);
     let level = mel * 32 + 1;
@@ -144,5 +141,5 @@ fn code_of(request: Request) -> u8
 fn has_rb(request: Request) -> bool
     ensures { result ≡ (coded request).rb }
 {
-    matches!(request, Request::RplBlocked)
+    request == Request::RplBlocked
 }
