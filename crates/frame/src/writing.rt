@@ -11,6 +11,7 @@ ghost use Rattle.frame.specs.Writing.{frame_octets, head_octets, in_range, reque
 use super::types::{Body, Channel, EVENT, FRAME_LENGTH, FrameFault, Message, NodeId, Request};
 
 // Writes the message's frame into the buffer's first 55 octets; a refusal leaves the buffer as it was.
+// The MEL stands beside the channel and not in it, since the reader looks at no MEL.
 pub fn write_frame(
     message: Message,
     channel: Channel,
@@ -37,10 +38,8 @@ pub fn is_in_range(node: NodeId, channel: Channel, mel: u8) -> bool
     ensures { result ≡ in_range node channel mel }
 {
     is_station(node)
-        && 1 <= channel.ring_id
-        && channel.ring_id <= 239
-        && 1 <= channel.vid
-        && channel.vid <= 4094
+        && (1..=239).contains(&channel.ring_id)
+        && (1..=4094).contains(&channel.vid)
         && mel <= 7
 }
 
