@@ -1,15 +1,23 @@
 -- What flush leaves of a table. Assumes nothing.
-use Rattle.std.proofs.Common.{◌≡◌, ℕ, ◌+◌, ◌≤◌, Bool, false, cond, eqb, List, [], ◌∷◌, map, Some, None, sym, refl, ap, ◌∙◌, arith}
+use Rattle.std.proofs.Common.{◌≡◌, ℕ, zero, suc, ◌+◌, ◌≤◌, Bool, false, cond, eqb, List, [], ◌∷◌, map, Some, None, Ok, sym, refl, ap, ◌∙◌, arith}
+use Rattle.std.specs.List.{list_any}
 use Rattle.fabric.specs.declared.table.Address.{Address}
 use Rattle.fabric.specs.declared.table.Side.{Side}
 use Rattle.fabric.specs.declared.table.Side.TheVariants.{Port0, Port1, OffRing}
 use Rattle.fabric.specs.declared.table.Record.{Record}
 use Rattle.fabric.specs.declared.table.Record.TheVariants.{Free, Known}
 use Rattle.fabric.specs.declared.table.TableFabric.{TableFabric}
-use Rattle.fabric.specs.Marks.{after_flush}
-use Rattle.fabric.specs.Table.{same_address, holds, of_port, any_of, found_at, off_ring_octets, table_marks, freed}
+use Rattle.fabric.specs.Marks.{after_flush, port_answer, taught_answer}
+use Rattle.fabric.specs.Table.{side_number, same_address, holds, of_port, found_at, off_ring_octets, table_marks, freed}
 use Rattle.fabric.specs.Laws.{how_many, only_off_ring, FlushLaw}
 use Rattle.fabric.proofs.Addresses.{by_cases}
+
+-- the mark of a ring port is that of its side
+pub taught_at : (t : TableFabric) (p : ℕ) (s : Side) → port_answer p Port0 Port1 ≡ Ok s
+    → Ok (list_any (of_port (side_number s)) t.records) ≡ taught_answer (table_marks t) p
+taught_at t zero s e = let f : Port0 ≡ s = cc in ap (λ (q : Side). Ok (list_any (of_port (side_number q)) t.records)) (sym f)
+taught_at t (suc zero) s e = let f : Port1 ≡ s = cc in ap (λ (q : Side). Ok (list_any (of_port (side_number q)) t.records)) (sym f)
+taught_at t (suc (suc n)) s e = absurd cc
 
 -- only records of port 2 are left
 freed_not : (p : ℕ) → eqb 2 p ≡ false → (r : Record) → of_port p (freed r) ≡ false
@@ -18,7 +26,7 @@ freed_not p h (Known a Port0) = refl
 freed_not p h (Known a Port1) = refl
 freed_not p h (Known a OffRing) = h
 
-any_freed : (t : Record → Bool) → ((r : Record) → t (freed r) ≡ false) → (rs : List Record) → any_of t (map freed rs) ≡ false
+any_freed : (t : Record → Bool) → ((r : Record) → t (freed r) ≡ false) → (rs : List Record) → list_any t (map freed rs) ≡ false
 any_freed t h [] = refl
 any_freed t h (r ∷ rs) = rw (h r) (any_freed t h rs)
 

@@ -3,37 +3,27 @@ use Rattle.std.proofs.Common.{◌≡◌, ℕ, suc, ◌+◌, ◌-◌, ◌<◌, �
 use Rattle.std.proofs.lemmas.List.{at_drop_more, at_drop_all}
 use Rattle.fabric.specs.declared.table.Record.{Record}
 use Rattle.fabric.specs.declared.table.Address.{Address}
-use Rattle.fabric.specs.Search.{first_from}
-use Rattle.fabric.specs.Table.{holds, side_of, any_of, put_first, found_at}
-
--- one step of the walk
-pub first_here : (t : Record → Bool) (rs : List Record) (i : ℕ) (d : Record) → i < length rs → t (get_or rs i d) ≡ true → first_from t i (drop i rs) ≡ Some i
-first_here t rs i d h e = at_drop_more (first_from t i) rs i d h ∙ rw e
-
-pub first_on : (t : Record → Bool) (rs : List Record) (i : ℕ) (d : Record) → i < length rs → t (get_or rs i d) ≡ false → first_from t i (drop i rs) ≡ first_from t (i + 1) (drop (i + 1) rs)
-first_on t rs i d h e = at_drop_more (first_from t i) rs i d h ∙ rw e
-
-pub first_none : (t : Record → Bool) (rs : List Record) (i : ℕ) → length rs ≤ i → first_from t i (drop i rs) ≡ None
-first_none t rs i h = at_drop_all (first_from t i) rs i h
+use Rattle.std.specs.List.{list_any, position_from}
+use Rattle.fabric.specs.Table.{holds, side_of, put_first, found_at}
 
 -- there is a first one where some record passes
-pub first_some : (t : Record → Bool) (n : ℕ) (rs : List Record) → is_some (first_from t n rs) ≡ any_of t rs
+pub first_some : (t : Record → Bool) (n : ℕ) (rs : List Record) → is_some (position_from t n rs) ≡ list_any t rs
 first_some t n [] = refl
 first_some t n (r ∷ rs) =
-    elim (t r) as (λ v. is_some (cond v (Some n) (first_from t (n + 1) rs)) ≡ (v || any_of t rs))
+    elim (t r) as (λ v. is_some (cond v (Some n) (position_from t (n + 1) rs)) ≡ (v || list_any t rs))
     [ true ↦ refl | false ↦ first_some t (n + 1) rs ]
 
-pub first_yes : (t : Record → Bool) (i : ℕ) (rs : List Record) → first_from t 0 rs ≡ Some i → any_of t rs ≡ true
+pub first_yes : (t : Record → Bool) (i : ℕ) (rs : List Record) → position_from t 0 rs ≡ Some i → list_any t rs ≡ true
 first_yes t i rs e = sym (first_some t 0 rs) ∙ ap is_some e
 
-pub first_no : (t : Record → Bool) (rs : List Record) → first_from t 0 rs ≡ None → any_of t rs ≡ false
+pub first_no : (t : Record → Bool) (rs : List Record) → position_from t 0 rs ≡ None → list_any t rs ≡ false
 first_no t rs e = sym (first_some t 0 rs) ∙ ap is_some e
 
 -- writing at the place that was found
-pub first_put : (t : Record → Bool) (new : Record) (n i : ℕ) (rs : List Record) → first_from t n rs ≡ Some i → (n ≤ i) × (set rs (i - n) new ≡ put_first t new rs)
+pub first_put : (t : Record → Bool) (new : Record) (n i : ℕ) (rs : List Record) → position_from t n rs ≡ Some i → (n ≤ i) × (set rs (i - n) new ≡ put_first t new rs)
 first_put t new n i [] = λ e. let z : ◌≡◌ {A = ℕ} 0 1 = cc in absurd (omega arith)
 first_put t new n i (r ∷ rs) =
-    elim (t r) as (λ v. cond v (Some n) (first_from t (n + 1) rs) ≡ Some i → (n ≤ i) × (set (r ∷ rs) (i - n) new ≡ cond v (new ∷ rs) (r ∷ put_first t new rs))) [
+    elim (t r) as (λ v. cond v (Some n) (position_from t (n + 1) rs) ≡ Some i → (n ≤ i) × (set (r ∷ rs) (i - n) new ≡ cond v (new ∷ rs) (r ∷ put_first t new rs))) [
       | true ↦ λ e. let f : n ≡ i = cc in let z : i - n ≡ 0 = omega arith in (omega arith, rw z)
       | false ↦ λ e.
           let h = first_put t new (n + 1) i rs e in
@@ -42,19 +32,19 @@ first_put t new n i (r ∷ rs) =
     ]
 
 -- where no record passes nothing is written
-pub put_none : (t : Record → Bool) (new : Record) (rs : List Record) → any_of t rs ≡ false → put_first t new rs ≡ rs
+pub put_none : (t : Record → Bool) (new : Record) (rs : List Record) → list_any t rs ≡ false → put_first t new rs ≡ rs
 put_none t new [] = λ e. refl
 put_none t new (r ∷ rs) =
-    elim (t r) as (λ v. (v || any_of t rs) ≡ false → cond v (new ∷ rs) (r ∷ put_first t new rs) ≡ r ∷ rs) [
+    elim (t r) as (λ v. (v || list_any t rs) ≡ false → cond v (new ∷ rs) (r ∷ put_first t new rs) ≡ r ∷ rs) [
       | true ↦ λ e. let z : ◌≡◌ {A = ℕ} 0 1 = cc in absurd (omega arith)
       | false ↦ λ e. ap (λ q. r ∷ q) (put_none t new rs e)
     ]
 
 -- the record at the place that was found says where the address is
-pub first_found : (a : Address) (d : Record) (n i : ℕ) (rs : List Record) → first_from (holds a) n rs ≡ Some i → (n ≤ i) × (side_of (get_or rs (i - n) d) ≡ found_at a rs)
+pub first_found : (a : Address) (d : Record) (n i : ℕ) (rs : List Record) → position_from (holds a) n rs ≡ Some i → (n ≤ i) × (side_of (get_or rs (i - n) d) ≡ found_at a rs)
 first_found a d n i [] = λ e. let z : ◌≡◌ {A = ℕ} 0 1 = cc in absurd (omega arith)
 first_found a d n i (r ∷ rs) =
-    elim (holds a r) as (λ v. cond v (Some n) (first_from (holds a) (n + 1) rs) ≡ Some i → (n ≤ i) × (side_of (get_or (r ∷ rs) (i - n) d) ≡ cond v (side_of r) (found_at a rs))) [
+    elim (holds a r) as (λ v. cond v (Some n) (position_from (holds a) (n + 1) rs) ≡ Some i → (n ≤ i) × (side_of (get_or (r ∷ rs) (i - n) d) ≡ cond v (side_of r) (found_at a rs))) [
       | true ↦ λ e. let f : n ≡ i = cc in let z : i - n ≡ 0 = omega arith in (omega arith, rw z)
       | false ↦ λ e.
           let h = first_found a d (n + 1) i rs e in
@@ -62,17 +52,17 @@ first_found a d n i (r ∷ rs) =
           (omega (arith, h.0), rw z h.1)
     ]
 
-pub found_none : (a : Address) (rs : List Record) → any_of (holds a) rs ≡ false → found_at a rs ≡ None
+pub found_none : (a : Address) (rs : List Record) → list_any (holds a) rs ≡ false → found_at a rs ≡ None
 found_none a [] = λ e. refl
 found_none a (r ∷ rs) =
-    elim (holds a r) as (λ v. (v || any_of (holds a) rs) ≡ false → cond v (side_of r) (found_at a rs) ≡ None) [
+    elim (holds a r) as (λ v. (v || list_any (holds a) rs) ≡ false → cond v (side_of r) (found_at a rs) ≡ None) [
       | true ↦ λ e. let z : ◌≡◌ {A = ℕ} 0 1 = cc in absurd (omega arith)
       | false ↦ found_none a rs
     ]
 
 -- the same, counted from 0
-pub put_there : (t : Record → Bool) (new : Record) (i : ℕ) (rs : List Record) → first_from t 0 rs ≡ Some i → set rs i new ≡ put_first t new rs
+pub put_there : (t : Record → Bool) (new : Record) (i : ℕ) (rs : List Record) → position_from t 0 rs ≡ Some i → set rs i new ≡ put_first t new rs
 put_there t new i rs e = let z : i - 0 ≡ i = omega arith in rw z at (first_put t new 0 i rs e).1
 
-pub found_there : (a : Address) (d : Record) (i : ℕ) (rs : List Record) → first_from (holds a) 0 rs ≡ Some i → side_of (get_or rs i d) ≡ found_at a rs
+pub found_there : (a : Address) (d : Record) (i : ℕ) (rs : List Record) → position_from (holds a) 0 rs ≡ Some i → side_of (get_or rs i d) ≡ found_at a rs
 found_there a d i rs e = let z : i - 0 ≡ i = omega arith in rw z at (first_found a d 0 i rs e).1

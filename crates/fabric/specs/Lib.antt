@@ -2,5 +2,4 @@ pub mod Faults
 pub mod Laws
 pub mod Marks
 pub mod Register
-pub mod Search
 pub mod Table

@@ -1,5 +1,6 @@
 -- A fabric with a table of learned addresses. Assumes nothing.
-use Rattle.std.specs.Prelude.{ℕ, zero, suc, Bool, true, false, cond, ◌||◌, List, [], ◌∷◌, replicate, Some, None, Ok, Err, Option, Result, ◌==◌}
+use Rattle.std.specs.Prelude.{ℕ, zero, suc, Bool, true, false, cond, List, [], ◌∷◌, replicate, Some, None, Ok, Err, Option, Result, ◌==◌}
+use Rattle.std.specs.List.{list_any}
 use Rattle.std.specs.Str.{bytes_eq}
 use Rattle.fabric.specs.declared.types.FabricFault.{FabricFault}
 use Rattle.fabric.specs.declared.types.FabricFault.TheVariants.{NoSuchPort, OnBlocked, TableFull}
@@ -44,11 +45,6 @@ abbrev pub is_free : Record → Bool
 is_free Free = true
 is_free (Known a s) = false
 
--- some record passes
-abbrev pub any_of : (Record → Bool) → List Record → Bool
-any_of t [] = false
-any_of t (r ∷ rs) = t r || any_of t rs
-
 -- the first record that passes gives way to a new one
 abbrev pub put_first : (Record → Bool) → Record → List Record → List Record
 put_first t new [] = []
@@ -72,7 +68,7 @@ empty_table = record { blocked = no_port; records = replicate 64 Free }
 abbrev pub table_marks : TableFabric → Marks
 table_marks t = record {
   blocked = t.blocked;
-  taught = record { p0 = any_of (of_port 0) t.records; p1 = any_of (of_port 1) t.records };
+  taught = record { p0 = list_any (of_port 0) t.records; p1 = list_any (of_port 1) t.records };
 }
 
 -- the octets of an address off the ring, and nothing of any other record
@@ -112,8 +108,8 @@ accept rs = record { answer = Ok tt; after = rs }
 abbrev pub learning_at : TableFabric → Address → ℕ → Side → Learning
 learning_at t a p s =
     cond (blocked_at t.blocked s) (refuse t (OnBlocked p))
-    (cond (any_of (holds a) t.records) (accept (put_first (holds a) (Known a s) t.records))
-    (cond (any_of is_free t.records) (accept (put_first is_free (Known a s) t.records))
+    (cond (list_any (holds a) t.records) (accept (put_first (holds a) (Known a s) t.records))
+    (cond (list_any is_free t.records) (accept (put_first is_free (Known a s) t.records))
     (refuse t (TableFull p))))
 
 -- a number that names no side is refused before all else

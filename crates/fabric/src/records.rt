@@ -1,85 +1,82 @@
-// Walks over the records of a table.
-ghost use Rattle.std.specs.Prelude.{◌≡◌, ◌<◌, map, length, IfSome};
-ghost use Rattle.fabric.specs.Search.{is_sought, first_from};
-ghost use Rattle.fabric.specs.Table.{side_of, any_of, put_first, freed};
+// The records of a table: which one is meant, what it says, and what flush makes of it.
+ghost use Rattle.std.specs.Prelude.{◌≡◌, ◌<◌, length, map, IfSome};
+ghost use Rattle.std.specs.List.{list_any, position_from};
+ghost use Rattle.std.specs.Option.{option_or};
+ghost use Rattle.fabric.specs.Table.{freed, holds, is_free, of_port, side_number, side_of};
 
 use super::table::{Address, Record, Side};
 
-// What a search looks for.
-#[derive(Clone, Copy)]
-pub(crate) enum Sought {
-    Holding(Address),
-    OfPort(u8),
-    Unused,
-}
+impl Record {
+    // Whether it holds this address.
+    fn holds(self, wanted: Address) -> bool
+        ensures { result ≡ holds wanted self }
+    {
+        match self {
+            Record::Known { address, .. } => address == wanted,
+            Record::Free => false,
+        }
+    }
 
-// Whether a record is what is sought.
-fn passes(record: Record, sought: Sought) -> bool
-    ensures { result ≡ is_sought sought «record» }
-{
-    match (record, sought) {
-        (Record::Known { address, .. }, Sought::Holding(wanted)) => address == wanted,
-        (Record::Known { at, .. }, Sought::OfPort(port)) => at.number() == port,
-        (Record::Free, Sought::Unused) => true,
-        _ => false,
+    // Where it says that its address is.
+    pub(crate) fn side(self) -> Option<Side>
+        ensures { result ≡ side_of self }
+    {
+        match self {
+            Record::Known { at, .. } => Some(at),
+            Record::Free => None,
+        }
+    }
+
+    // Whether it is of this side.
+    fn is_of(self, side: Side) -> bool
+        ensures { result ≡ of_port (side_number side) self }
+    {
+        self.side() == Some(side)
+    }
+
+    // What flush makes of it.
+    fn without_ring(self) -> Record
+        ensures { result ≡ freed self }
+    {
+        match self {
+            Record::Known {
+                at: Side::Port0 | Side::Port1,
+                ..
+            } => Record::Free,
+            _ => self,
+        }
     }
 }
 
-// The place of the first record that is sought.
-pub(crate) fn first(records: &[Record], sought: Sought) -> Option<usize>
-    ensures value { result ≡ first_from (is_sought sought) 0 records.now }
+// The place of the first record that holds this address.
+pub(crate) fn place_of(records: &[Record], address: Address) -> Option<usize>
+    ensures place { result ≡ position_from (holds address) 0 records.now }
     ensures within { IfSome result (λ i. i < length records.now) }
 {
-    for (i, record) in records.iter().enumerate() {
-        if passes(*record, sought) {
-            return Some(i);
-        }
-    }
-    None
+    records.iter().position(|record| record.holds(address))
 }
 
-// Whether some record is sought.
-pub(crate) fn has(records: &[Record], sought: Sought) -> bool
-    ensures { result ≡ any_of (is_sought sought) records.now }
+// The place of the first free record.
+fn free_place(records: &[Record]) -> Option<usize>
+    ensures place { result ≡ position_from is_free 0 records.now }
+    ensures within { IfSome result (λ i. i < length records.now) }
 {
-    first(records, sought).is_some()
+    records.iter().position(|record| *record == Record::Free)
 }
 
-// Writes `new` over the first record that is sought, and says whether there is one.
-pub(crate) fn put(records: &mut [Record], sought: Sought, new: Record) -> bool
-    ensures answer { result ≡ any_of (is_sought sought) records.old }
-    ensures after { records.new ≡ put_first (is_sought sought) new records.old }
+// Whether some record is of this side.
+pub(crate) fn has_side(records: &[Record], side: Side) -> bool
+    ensures { result ≡ list_any (of_port (side_number side)) records.now }
 {
-    match first(records, sought) {
-        Some(i) => {
-            records[i] = new;
-            true
-        }
-        None => false,
-    }
+    records.iter().any(|record| record.is_of(side))
 }
 
-// Where a record says that its address is.
-pub(crate) fn side(record: Record) -> Option<Side>
-    ensures { result ≡ side_of «record» }
+// Where a record of this address goes: over the one that holds it, else over the first that is free.
+pub(crate) fn place_for(records: &[Record], address: Address) -> Option<usize>
+    ensures place { result ≡ option_or (position_from (holds address) 0 records.now) (position_from is_free 0 records.now) }
+    ensures within { IfSome result (λ i. i < length records.now) }
 {
-    match record {
-        Record::Known { at, .. } => Some(at),
-        Record::Free => None,
-    }
-}
-
-// What flush makes of a record.
-fn without_ring(record: Record) -> Record
-    ensures { result ≡ freed «record» }
-{
-    match record {
-        Record::Known {
-            at: Side::Port0 | Side::Port1,
-            ..
-        } => Record::Free,
-        _ => record,
-    }
+    place_of(records, address).or_else(|| free_place(records))
 }
 
 // Frees the records of both ring ports.
@@ -87,6 +84,6 @@ pub(crate) fn free_ring(records: &mut [Record])
     ensures { records.new ≡ map freed records.old }
 {
     for record in records.iter_mut() {
-        *record = without_ring(*record);
+        *record = record.without_ring();
     }
 }

@@ -5,7 +5,7 @@ ghost use Rattle.fabric.specs.Marks.{done_answer, after_block, after_open, after
 ghost use Rattle.fabric.specs.Register.{bit, with_bit, word_marks, host_bits, word_with_blocked, word_after_flush};
 
 use super::fabric::Fabric;
-use super::types::FabricFault;
+use super::types::{FabricFault, of_port};
 
 #[derive(Clone, Copy, PartialEq, Eq, Debug)]
 pub struct RegisterFabric {
@@ -44,11 +44,7 @@ impl RegisterFabric {
         ensures answer { result ≡ done_answer port }
         ensures exact { self.new.word ≡ word_with_blocked self.old.word port on }
     {
-        let place = match port {
-            0 => BLOCKED_0,
-            1 => BLOCKED_1,
-            _ => return Err(FabricFault::NoSuchPort { port }),
-        };
+        let place = of_port(port, BLOCKED_0, BLOCKED_1)?;
         self.word = with_bit(self.word, place, on);
         Ok(())
     }
@@ -60,19 +56,11 @@ impl Fabric for RegisterFabric {
     ghost kept = { λ f. host_bits f.word };
 
     fn is_blocked(&self, port: u8) -> Result<bool, FabricFault> {
-        match port {
-            0 => Ok(has_bit(self.word, BLOCKED_0)),
-            1 => Ok(has_bit(self.word, BLOCKED_1)),
-            _ => Err(FabricFault::NoSuchPort { port }),
-        }
+        Ok(has_bit(self.word, of_port(port, BLOCKED_0, BLOCKED_1)?))
     }
 
     fn is_taught(&self, port: u8) -> Result<bool, FabricFault> {
-        match port {
-            0 => Ok(has_bit(self.word, TAUGHT_0)),
-            1 => Ok(has_bit(self.word, TAUGHT_1)),
-            _ => Err(FabricFault::NoSuchPort { port }),
-        }
+        Ok(has_bit(self.word, of_port(port, TAUGHT_0, TAUGHT_1)?))
     }
 
     fn block(&mut self, port: u8) -> Result<(), FabricFault>

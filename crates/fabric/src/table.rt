@@ -2,33 +2,18 @@
 ghost use Rattle.std.specs.Prelude.{◌≡◌, map};
 ghost use Rattle.fabric.specs.Laws.{Single, LearnLaw, FlushLaw};
 ghost use Rattle.fabric.specs.Marks.{done_answer, after_block, after_open, after_flush};
-ghost use Rattle.fabric.specs.Table.{same_address, side_number, side_at, blocked_at, found_at, empty_table, table_marks, off_ring_octets, freed, learning_at, learning};
-ghost use Rattle.std.specs.Cmp.Rules.{comparing};
-ghost use Rattle.std.proofs.Common.{rules};
-ghost use Rattle.std.specs.Cmp as Keys;
+ghost use Rattle.fabric.specs.Table.{side_number, side_at, blocked_at, found_at, empty_table, table_marks, off_ring_octets, freed, learning_at, learning};
+ghost use Rattle.std.specs.Option.{ok_or};
+ghost use Rattle.fabric.specs.declared.types.FabricFault.TheVariants.{NoSuchPort};
 
 use super::fabric::Fabric;
-use super::records::{Sought, first, free_ring, has, put, side};
-use super::types::{FabricFault, Ports};
+use super::records::{free_ring, has_side, place_for, place_of};
+use super::types::{FabricFault, Ports, of_port};
 
-// An Ethernet address. Its `==` is written out, by a definition of ours that names the six octets.
-#[derive(Clone, Copy, Debug)]
+// An Ethernet address.
+#[derive(Clone, Copy, PartialEq, Eq, Debug)]
 pub struct Address {
     pub octets: [u8; 6],
-}
-
-impl PartialEq for Address {
-    ghost eq = { λ a b. same_address a b };
-
-    ghost laws = { Keys.partial_equiv_from_equiv (Prim.search (comparing, rules)) };
-
-    fn eq(&self, other: &Address) -> bool {
-        self.octets == other.octets
-    }
-}
-
-impl Eq for Address {
-    ghost laws = { Prim.search (comparing, rules) };
 }
 
 // Where an address was learned. OffRing is port 2, which is never blocked or taught.
@@ -52,27 +37,31 @@ pub struct TableFabric {
     pub records: [Record; 64],
 }
 
-impl Side {
-    // The number of its port.
-    pub fn number(self) -> u8
-        ensures value { result ≡ side_number self }
-    {
-        match self {
+// The number of its port.
+impl From<Side> for u8 {
+    ghost from_gives = { λ side number. number ≡ side_number side };
+
+    fn from(side: Side) -> u8 {
+        match side {
             Side::Port0 => 0,
             Side::Port1 => 1,
             Side::OffRing => 2,
         }
     }
+}
 
-    // The side that a port number names.
-    fn at(port: u8) -> Option<Side>
-        ensures { result ≡ side_at port }
-    {
+// The side that a port number names.
+impl TryFrom<u8> for Side {
+    type Error = FabricFault;
+
+    ghost try_from_gives = { λ port side. side ≡ ok_or (side_at port) (NoSuchPort port) };
+
+    fn try_from(port: u8) -> Result<Side, FabricFault> {
         match port {
-            0 => Some(Side::Port0),
-            1 => Some(Side::Port1),
-            2 => Some(Side::OffRing),
-            _ => None,
+            0 => Ok(Side::Port0),
+            1 => Ok(Side::Port1),
+            2 => Ok(Side::OffRing),
+            _ => Err(FabricFault::NoSuchPort { port }),
         }
     }
 }
@@ -107,10 +96,8 @@ impl TableFabric {
     pub fn lookup(&self, address: Address) -> Option<Side>
         ensures value { result ≡ found_at address self.now.records }
     {
-        match first(&self.records, Sought::Holding(address)) {
-            Some(i) => side(self.records[i]),
-            None => None,
-        }
+        let place = place_of(&self.records, address)?;
+        self.records[place].side()
     }
 
     // Learns that an address is at a port: 0 and 1 on the ring, 2 off it.
@@ -121,10 +108,8 @@ impl TableFabric {
         ensures blocks { self.new.blocked ≡ self.old.blocked }
         ensures law { LearnLaw address port self.old.records result self.new.records }
     {
-        match Side::at(port) {
-            Some(side) => self.learn_at(address, port, side),
-            None => Err(FabricFault::NoSuchPort { port }),
-        }
+        let side = Side::try_from(port)?;
+        self.learn_at(address, port, side)
     }
 
     // The known address goes first, so that a full table still moves it.
@@ -136,14 +121,11 @@ impl TableFabric {
         if self.is_shut(side) {
             return Err(FabricFault::OnBlocked { port });
         }
-        let new = Record::Known { address, at: side };
-        if put(&mut self.records, Sought::Holding(address), new) {
-            return Ok(());
-        }
-        if put(&mut self.records, Sought::Unused, new) {
-            return Ok(());
-        }
-        Err(FabricFault::TableFull { port })
+        let Some(place) = place_for(&self.records, address) else {
+            return Err(FabricFault::TableFull { port });
+        };
+        self.records[place] = Record::Known { address, at: side };
+        Ok(())
     }
 }
 
@@ -153,19 +135,12 @@ impl Fabric for TableFabric {
     ghost kept = { λ t. map off_ring_octets t.records };
 
     fn is_blocked(&self, port: u8) -> Result<bool, FabricFault> {
-        match port {
-            0 => Ok(self.blocked.p0),
-            1 => Ok(self.blocked.p1),
-            _ => Err(FabricFault::NoSuchPort { port }),
-        }
+        self.blocked.mark(port)
     }
 
     fn is_taught(&self, port: u8) -> Result<bool, FabricFault> {
-        match port {
-            0 => Ok(has(&self.records, Sought::OfPort(0))),
-            1 => Ok(has(&self.records, Sought::OfPort(1))),
-            _ => Err(FabricFault::NoSuchPort { port }),
-        }
+        let taught = of_port(port, Side::Port0, Side::Port1)?;
+        Ok(has_side(&self.records, taught))
     }
 
     fn block(&mut self, port: u8) -> Result<(), FabricFault>
@@ -174,12 +149,7 @@ impl Fabric for TableFabric {
         ensures same { map off_ring_octets self.new.records ≡ map off_ring_octets self.old.records }
         ensures records { self.new.records ≡ self.old.records }
     {
-        match port {
-            0 => self.blocked.p0 = true,
-            1 => self.blocked.p1 = true,
-            _ => return Err(FabricFault::NoSuchPort { port }),
-        }
-        Ok(())
+        self.blocked.set_mark(port, true)
     }
 
     fn open(&mut self, port: u8) -> Result<(), FabricFault>
@@ -188,12 +158,7 @@ impl Fabric for TableFabric {
         ensures same { map off_ring_octets self.new.records ≡ map off_ring_octets self.old.records }
         ensures records { self.new.records ≡ self.old.records }
     {
-        match port {
-            0 => self.blocked.p0 = false,
-            1 => self.blocked.p1 = false,
-            _ => return Err(FabricFault::NoSuchPort { port }),
-        }
-        Ok(())
+        self.blocked.set_mark(port, false)
     }
 
     fn flush(&mut self)

@@ -1,12 +1,46 @@
 // What every fabric shares: marks in pairs, and the refusals.
 ghost use Rattle.std.specs.Prelude.{◌≡◌, Some};
 ghost use Rattle.fabric.specs.Faults.{refusal};
+ghost use Rattle.fabric.specs.Marks.{done_answer, port_answer, with_mark};
 
 // A mark for each ring port.
 #[derive(Clone, Copy, PartialEq, Eq, Debug)]
 pub struct Ports {
     pub p0: bool,
     pub p1: bool,
+}
+
+// What belongs to a ring port, of what is kept for each; any other number is refused.
+pub(crate) fn of_port<T: Copy>(port: u8, zero: T, one: T) -> Result<T, FabricFault>
+    ensures { result ≡ port_answer port zero one }
+{
+    match port {
+        0 => Ok(zero),
+        1 => Ok(one),
+        _ => Err(FabricFault::NoSuchPort { port }),
+    }
+}
+
+impl Ports {
+    // The mark of a ring port.
+    pub fn mark(self, port: u8) -> Result<bool, FabricFault>
+        ensures { result ≡ port_answer port self.p0 self.p1 }
+    {
+        of_port(port, self.p0, self.p1)
+    }
+
+    // Sets or clears the mark of a ring port.
+    pub fn set_mark(&mut self, port: u8, on: bool) -> Result<(), FabricFault>
+        ensures answer { result ≡ done_answer port }
+        ensures after { self.new ≡ with_mark self.old port on }
+    {
+        match port {
+            0 => self.p0 = on,
+            1 => self.p1 = on,
+            _ => return Err(FabricFault::NoSuchPort { port }),
+        }
+        Ok(())
+    }
 }
 
 // Why a fabric refuses a call; specs/Faults.antt has each one's number and place.

@@ -34,7 +34,8 @@ pub fn highest<T: Ranked>(items: &[T]) -> Option<usize>
     }
     let mut best = 0;
     for (i, item) in items.iter().enumerate() {
-        if item.outranks(&items[best]) {
+        let is_higher = item.outranks(&items[best]);
+        if is_higher {
             best = i;
         }
     }
