@@ -29,8 +29,8 @@ mod tests {
     // The worked frame with one octet changed.
     fn damaged(offset: usize, octet: u8) -> [u8; 55] {
         let mut frame = worked_frame();
-        if offset < 55 {
-            frame[offset] = octet;
+        if let Some(place) = frame.get_mut(offset) {
+            *place = octet;
         }
         frame
     }
@@ -46,12 +46,8 @@ mod tests {
     #[test]
     fn the_worked_frame(rt: HostRuntime) {
         let frame = worked_frame();
-        for i in 0..30 {
-            assert_eq!(rt; frame[i], WORKED[i]);
-        }
-        for i in 30..55 {
-            assert_eq!(rt; frame[i], 0);
-        }
+        assert!(rt; frame.starts_with(&WORKED));
+        assert!(rt; frame[30..].iter().all(|octet| *octet == 0));
     }
 
     #[test]
@@ -60,15 +56,13 @@ mod tests {
             return Err(Fail::new("refused"));
         };
         assert_eq!(rt; message.node.number(), 0x0000_5E00_5301);
-        assert!(rt;
-            matches!(
-                message.body,
-                Body::Signal {
-                    request: Request::SignalFail,
-                    dnf: false,
-                    bpr: true
-                }
-            )
+        assert_eq!(rt;
+            message.body,
+            Body::Signal {
+                request: Request::SignalFail,
+                dnf: false,
+                bpr: true,
+            }
         );
         Ok(())
     }
@@ -92,21 +86,15 @@ mod tests {
             body: Body::Event,
         };
         let mut short = [0xAA; 54];
-        assert!(rt;
-            matches!(
-                write_frame(message, CHANNEL, 7, &mut short),
-                Err(FrameFault::Buffer)
-            )
+        assert_eq!(rt;
+            write_frame(message, CHANNEL, 7, &mut short),
+            Err(FrameFault::Buffer)
         );
-        assert!(rt;
-            matches!(
-                write_frame(message, CHANNEL, 8, &mut short),
-                Err(FrameFault::Settings)
-            )
+        assert_eq!(rt;
+            write_frame(message, CHANNEL, 8, &mut short),
+            Err(FrameFault::Settings)
         );
-        for i in 0..54 {
-            assert_eq!(rt; short[i], 0xAA);
-        }
+        assert_eq!(rt; short, [0xAA; 54]);
     }
 
     #[test]

@@ -1,10 +1,10 @@
 // Shows the two fabrics: learning, blocking, opening, flushing, and what is refused.
 use fabric::{Address, Fabric, FabricFault, RegisterFabric, TableFabric};
-use script::{FabricRefused, Hex};
+use script::{Hex, Refused};
 use std::{fmt, io};
 
 // What a call answers: `ok`, or the refusal.
-#[derive(Clone, Copy)]
+#[derive(Clone, Copy, PartialEq, Eq, Debug)]
 struct Answer(Result<(), FabricFault>);
 
 impl fmt::Display for Answer {
@@ -12,21 +12,22 @@ impl fmt::Display for Answer {
         match self.0 {
             Ok(()) => write!(f, "ok"),
             Err(fault) => {
-                let refused = FabricRefused(fault);
+                let refused = Refused(fault);
                 write!(f, "{refused}")
             }
         }
     }
 }
 
-fn block<F: Fabric>(rt: &HostRuntime, fabric: &mut F, port: u8) -> io::Result<()> {
-    let answer = Answer(fabric.block(port));
-    println!(rt; "  block port {port}: {answer}")
-}
-
-fn open<F: Fabric>(rt: &HostRuntime, fabric: &mut F, port: u8) -> io::Result<()> {
-    let answer = Answer(fabric.open(port));
-    println!(rt; "  open port {port}: {answer}")
+// One line: a call at a port, and what it answers.
+fn tell(
+    rt: &HostRuntime,
+    call: &str,
+    port: u8,
+    answer: Result<(), FabricFault>,
+) -> io::Result<()> {
+    let answer = Answer(answer);
+    println!(rt; "  {call} port {port}: {answer}")
 }
 
 fn flush<F: Fabric>(rt: &HostRuntime, fabric: &mut F) -> io::Result<()> {
@@ -44,7 +45,7 @@ fn look_up(rt: &HostRuntime, table: &TableFabric, address: Address) -> io::Resul
     let hex = Hex(&address.octets);
     match table.lookup(address) {
         Some(side) => {
-            let port = side.number();
+            let port = u8::from(side);
             println!(rt; "  look up {hex}: port {port}")
         }
         None => println!(rt; "  look up {hex}: not known"),
@@ -70,7 +71,7 @@ pub(crate) fn show_table(rt: &HostRuntime) -> io::Result<()> {
     let mut table = TableFabric::new();
     learn(rt, &mut table, host(0x10), 0)?;
     look_up(rt, &table, host(0x10))?;
-    block(rt, &mut table, 0)?;
+    tell(rt, "block", 0, table.block(0))?;
     learn(rt, &mut table, host(0x11), 0)?;
     learn(rt, &mut table, host(0x12), 2)?;
     flush(rt, &mut table)?;
@@ -84,12 +85,12 @@ pub(crate) fn show_register(rt: &HostRuntime) -> io::Result<()> {
     )?;
     let mut register = RegisterFabric { word: 0xB123_4567 };
     show_word(rt, &register)?;
-    block(rt, &mut register, 1)?;
+    tell(rt, "block", 1, register.block(1))?;
     show_word(rt, &register)?;
-    open(rt, &mut register, 0)?;
+    tell(rt, "open", 0, register.open(0))?;
     show_word(rt, &register)?;
     flush(rt, &mut register)?;
     show_word(rt, &register)?;
-    block(rt, &mut register, 3)?;
+    tell(rt, "block", 3, register.block(3))?;
     show_word(rt, &register)
 }

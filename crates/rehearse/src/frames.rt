@@ -1,5 +1,5 @@
 // Shows a frame of the ring: written, read back, and refused when damaged.
-use frame::{Body, Channel, Message, NodeId, Request, read_frame, write_frame};
+use frame::{Body, Channel, FRAME_LENGTH, Message, NodeId, Request, read_frame, write_frame};
 use script::{Heard, Hex, Refused};
 use std::io;
 
@@ -29,10 +29,10 @@ const FIELDS: [(usize, usize, &str); 14] = [
 ];
 
 // The frame's octets, a field to a line.
-fn show(rt: &HostRuntime, frame: &[u8; 55]) -> io::Result<()> {
+fn show(rt: &HostRuntime, frame: &[u8; FRAME_LENGTH]) -> io::Result<()> {
     for (from, to, name) in FIELDS {
-        if from <= to && to <= 55 {
-            let octets = Hex(&frame[from..to]);
+        if let Some(octets) = frame.get(from..to) {
+            let octets = Hex(octets);
             println!(rt; "  {from:2}  {octets}  {name}")?;
         }
     }
@@ -40,7 +40,7 @@ fn show(rt: &HostRuntime, frame: &[u8; 55]) -> io::Result<()> {
 }
 
 // What the reader makes of a frame.
-fn hear(rt: &HostRuntime, frame: &[u8; 55]) -> io::Result<()> {
+fn hear(rt: &HostRuntime, frame: &[u8; FRAME_LENGTH]) -> io::Result<()> {
     match read_frame(frame, CHANNEL) {
         Ok(message) => {
             let heard = Heard(message);
@@ -64,7 +64,7 @@ pub(crate) fn show_frame(rt: &HostRuntime) -> io::Result<()> {
             bpr: true,
         },
     };
-    let mut frame = [0; 55];
+    let mut frame = [0; FRAME_LENGTH];
     if let Err(fault) = write_frame(message, CHANNEL, MEL, &mut frame) {
         let refused = Refused(fault);
         return println!(rt; "{refused}");

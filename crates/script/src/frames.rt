@@ -1,80 +1,75 @@
 // The lines that read and write single frames.
-use super::words::{Hex, Id, id_of, octets_of};
-use frame::{Body, Channel, FrameFault, Message, NodeId, Request, read_frame, write_frame};
+use super::refusals::Refused;
+use super::words::{Hex, Id, octets_of};
+use frame::{Body, Channel, Message, Request, read_frame, write_frame};
 use std::alloc::{AllocError, Global};
 use std::fmt;
+use std::str::FromStr;
+
+// What a message is, in a script's word for it: an event, or the request of a signal.
+#[derive(Clone, Copy, PartialEq, Eq, Debug)]
+enum Kind {
+    Event,
+    Signal(Request),
+}
+
+// A word that is no kind.
+#[derive(Clone, Copy, PartialEq, Eq, Debug)]
+struct NoKind;
+
+impl fmt::Display for Kind {
+    fn fmt<W: fmt::Write>(&self, f: &mut fmt::Formatter<W>) -> fmt::Result {
+        f.write_str(match self {
+            Kind::Event => "EVENT",
+            Kind::Signal(Request::NoRequest) => "NR",
+            Kind::Signal(Request::RplBlocked) => "NRRB",
+            Kind::Signal(Request::ManualSwitch) => "MS",
+            Kind::Signal(Request::SignalFail) => "SF",
+            Kind::Signal(Request::ForcedSwitch) => "FS",
+        })
+    }
+}
+
+impl FromStr for Kind {
+    type Err = NoKind;
+
+    fn from_str(word: &str) -> Result<Kind, NoKind> {
+        match word {
+            "EVENT" => Ok(Kind::Event),
+            "NR" => Ok(Kind::Signal(Request::NoRequest)),
+            "NRRB" => Ok(Kind::Signal(Request::RplBlocked)),
+            "MS" => Ok(Kind::Signal(Request::ManualSwitch)),
+            "SF" => Ok(Kind::Signal(Request::SignalFail)),
+            "FS" => Ok(Kind::Signal(Request::ForcedSwitch)),
+            _ => Err(NoKind),
+        }
+    }
+}
 
 // A message as an answer tells it.
-#[derive(Clone, Copy)]
+#[derive(Clone, Copy, PartialEq, Eq, Debug)]
 pub struct Heard(pub Message);
 
 impl fmt::Display for Heard {
     fn fmt<W: fmt::Write>(&self, f: &mut fmt::Formatter<W>) -> fmt::Result {
+        let (kind, dnf, bpr) = match self.0.body {
+            Body::Event => (Kind::Event, false, false),
+            Body::Signal { request, dnf, bpr } => (Kind::Signal(request), dnf, bpr),
+        };
+        let dnf = u8::from(dnf);
+        let bpr = u8::from(bpr);
         let id = Id(self.0.node);
-        match self.0.body {
-            Body::Event => write!(f, "EVENT dnf=0 bpr=0 id={id}"),
-            Body::Signal { request, dnf, bpr } => {
-                let kind = kind_of(request);
-                let dnf = u8::from(dnf);
-                let bpr = u8::from(bpr);
-                write!(f, "{kind} dnf={dnf} bpr={bpr} id={id}")
-            }
-        }
+        write!(f, "{kind} dnf={dnf} bpr={bpr} id={id}")
     }
 }
 
-// A refusal of the frame library as an answer tells it: number, layer, station, port, octet.
-#[derive(Clone, Copy)]
-pub struct Refused(pub FrameFault);
-
-impl fmt::Display for Refused {
-    fn fmt<W: fmt::Write>(&self, f: &mut fmt::Formatter<W>) -> fmt::Result {
-        let number = self.0.number();
-        match self.0.octet() {
-            Some(octet) => write!(f, "no {number} frame st=- port=- oct={octet}"),
-            None => write!(f, "no {number} frame st=- port=- oct=-"),
-        }
-    }
-}
-
-fn kind_of(request: Request) -> &'static str {
-    match request {
-        Request::NoRequest => "NR",
-        Request::RplBlocked => "NRRB",
-        Request::ManualSwitch => "MS",
-        Request::SignalFail => "SF",
-        Request::ForcedSwitch => "FS",
-    }
-}
-
-// The body that a kind names; an event carries neither bit.
-fn body_of(kind: &str, dnf: bool, bpr: bool) -> Option<Body> {
-    let request = match kind {
-        "NR" => Request::NoRequest,
-        "NRRB" => Request::RplBlocked,
-        "MS" => Request::ManualSwitch,
-        "SF" => Request::SignalFail,
-        "FS" => Request::ForcedSwitch,
-        "EVENT" => return Some(Body::Event),
-        _ => return None,
-    };
-    Some(Body::Signal { request, dnf, bpr })
-}
-
+// A bit as `0` or `1`. (A bool's own `parse` reads other words.)
 fn flag_of(word: &str) -> Option<bool> {
     match word {
         "0" => Some(false),
         "1" => Some(true),
         _ => None,
     }
-}
-
-fn number_of(word: &str) -> Option<u16> {
-    word.parse::<u16>().ok()
-}
-
-fn octet_of(word: &str) -> Option<u8> {
-    word.parse::<u8>().ok()
 }
 
 // `read RING VID HEX`, the words after `read`: the message or the refusal; none for a bad line.
@@ -84,7 +79,7 @@ pub fn answer_read(
     hex: &str,
     heap: Global,
 ) -> Result<Option<String>, AllocError> {
-    let (Some(ring_id), Some(vid)) = (octet_of(ring), number_of(vid)) else {
+    let (Ok(ring_id), Ok(vid)) = (ring.parse(), vid.parse()) else {
         return Ok(None);
     };
     let Some(octets) = octets_of(hex, heap)? else {
@@ -104,7 +99,7 @@ pub fn answer_read(
 }
 
 // What the writer is asked to write.
-#[derive(Clone, Copy)]
+#[derive(Clone, Copy, PartialEq, Eq, Debug)]
 struct Order {
     message: Message,
     channel: Channel,
@@ -121,17 +116,22 @@ fn order_of(words: &[&str]) -> Option<Order> {
     Some(Order {
         message,
         channel: Channel {
-            ring_id: octet_of(ring)?,
-            vid: number_of(vid)?,
+            ring_id: ring.parse().ok()?,
+            vid: vid.parse().ok()?,
         },
-        mel: octet_of(mel)?,
-        length: number_of(length)?,
+        mel: mel.parse().ok()?,
+        length: length.parse().ok()?,
     })
 }
 
 fn message_of(id: &str, kind: &str, dnf: &str, bpr: &str) -> Option<Message> {
-    let node = id_of(id)?;
-    let body = body_of(kind, flag_of(dnf)?, flag_of(bpr)?)?;
+    let Id(node) = id.parse().ok()?;
+    let kind = kind.parse().ok()?;
+    let (dnf, bpr) = (flag_of(dnf)?, flag_of(bpr)?);
+    let body = match kind {
+        Kind::Event => Body::Event,
+        Kind::Signal(request) => Body::Signal { request, dnf, bpr },
+    };
     Some(Message { node, body })
 }
 

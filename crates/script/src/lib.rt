@@ -1,10 +1,10 @@
 // The lines of a script and the lines that answer them.
 #![tactic(auto)]
 
-mod fabrics;
 mod frames;
+mod refusals;
 mod words;
 
-pub use fabrics::FabricRefused;
-pub use frames::{Heard, Refused, answer_read, answer_write};
-pub use words::{Hex, Id, id_of, octets_of};
+pub use frames::{Heard, answer_read, answer_write};
+pub use refusals::{Refusal, Refused};
+pub use words::{Hex, Id, NoId, octets_of};

@@ -5,6 +5,7 @@ ghost use Rattle.script.specs.Words.{hex_digit, hex_octet};
 use frame::NodeId;
 use std::alloc::{AllocError, Global};
 use std::fmt;
+use std::str::FromStr;
 
 #[derive(Drop)]
 pub struct Hex<'a>(pub &'a [u8]);
@@ -22,7 +23,7 @@ impl fmt::Display for Hex<'_> {
 }
 
 // A Node ID: its six octets.
-#[derive(Clone, Copy)]
+#[derive(Clone, Copy, PartialEq, Eq, Debug)]
 pub struct Id(pub NodeId);
 
 impl fmt::Display for Id {
@@ -42,8 +43,8 @@ pub fn octets_of(word: &str, heap: Global) -> Result<Option<Vec<u8>>, AllocError
     if digits.len() % 2 != 0 {
         return Ok(None);
     }
-    for i in 0..digits.len() / 2 {
-        let Some(octet) = octet_of(digits[2 * i], digits[2 * i + 1]) else {
+    for pair in digits.chunks_exact(2) {
+        let Some(octet) = octet_of(pair[0], pair[1]) else {
             return Ok(None);
         };
         octets.push(octet)?;
@@ -51,17 +52,25 @@ pub fn octets_of(word: &str, heap: Global) -> Result<Option<Vec<u8>>, AllocError
     Ok(Some(octets))
 }
 
+// A word that is no Node ID.
+#[derive(Clone, Copy, PartialEq, Eq, Debug)]
+pub struct NoId;
+
 // The Node ID in twelve hex digits.
-pub fn id_of(word: &str) -> Option<NodeId> {
-    let digits = word.as_bytes();
-    if digits.len() != 12 {
-        return None;
+impl FromStr for Id {
+    type Err = NoId;
+
+    fn from_str(word: &str) -> Result<Id, NoId> {
+        let digits = word.as_bytes();
+        if digits.len() != 12 {
+            return Err(NoId);
+        }
+        let mut octets = [0; 6];
+        for (octet, pair) in octets.iter_mut().zip(digits.chunks_exact(2)) {
+            *octet = octet_of(pair[0], pair[1]).ok_or(NoId)?;
+        }
+        Ok(Id(NodeId { octets }))
     }
-    let mut octets = [0; 6];
-    for i in 0..6 {
-        octets[i] = octet_of(digits[2 * i], digits[2 * i + 1])?;
-    }
-    Some(NodeId { octets })
 }
 
 fn octet_of(high: u8, low: u8) -> Option<u8>
