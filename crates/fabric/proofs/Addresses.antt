@@ -1,11 +1,9 @@
 -- Addresses that agree are one, and what a record holds. Assumes nothing.
-use Rattle.std.proofs.Common.{◌≡◌, ℕ, Bool, true, false, List, refl, ap, ⊎_elim, arith}
+use Rattle.std.proofs.Common.{◌≡◌, ℕ, Bool, true, false, List, Some, None, refl, ap, ⊎_elim, arith}
 use Rattle.std.proofs.lemmas.Bool.{cases_Bool}
 use Rattle.std.proofs.lemmas.Slice.Eq.{bytes_eq-Decides}
 use Rattle.fabric.specs.declared.table.Address.{Address}
-use Rattle.fabric.specs.declared.table.Record.{Record}
-use Rattle.fabric.specs.declared.table.Record.TheVariants.{Free, Known}
-use Rattle.fabric.specs.Table.{same_address, holds, is_free}
+use Rattle.fabric.specs.Table.{Entry, same_address, holds, is_free}
 
 -- by whether a test passes
 pub by_cases : {P : Type 0} (b : Bool) → (b ≡ true → P) → (b ≡ false → P) → P
@@ -22,10 +20,10 @@ pub same_is : (a b : Address) → same_address a b ≡ true → a ≡ b
 same_is a b e = ap of_octets ((bytes_eq-Decides a.octets b.octets).0 e)
 
 -- a record that holds one address holds another where the two agree
-pub holds_like : (a b : Address) (r : Record) → holds a r ≡ true → holds b r ≡ same_address a b
-holds_like a b Free = λ e. let z : ◌≡◌ {A = ℕ} 0 1 = cc in absurd (omega arith)
-holds_like a b (Known c s) = λ e. ap (λ (x : Address). same_address x b) (same_is c a e)
+pub holds_like : (a b : Address) (r : Entry) → holds a r ≡ true → holds b r ≡ same_address a b
+holds_like a b None = λ e. let z : ◌≡◌ {A = ℕ} 0 1 = cc in absurd (omega arith)
+holds_like a b (Some r) = λ e. ap (λ (x : Address). same_address x b) (same_is r.address a e)
 
-pub free_holds_none : (b : Address) (r : Record) → is_free r ≡ true → holds b r ≡ false
-free_holds_none b Free = λ e. refl
-free_holds_none b (Known c s) = λ e. let z : ◌≡◌ {A = ℕ} 0 1 = cc in absurd (omega arith)
+pub free_holds_none : (b : Address) (r : Entry) → is_free r ≡ true → holds b r ≡ false
+free_holds_none b None = λ e. refl
+free_holds_none b (Some r) = λ e. let z : ◌≡◌ {A = ℕ} 0 1 = cc in absurd (omega arith)

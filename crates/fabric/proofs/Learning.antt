@@ -4,84 +4,82 @@ use Rattle.std.proofs.lemmas.Bool.{cond_both, or_parts}
 use Rattle.std.specs.List.{list_any, position_from}
 use Rattle.std.specs.Option.{ok_or, option_or}
 use Rattle.fabric.specs.declared.types.FabricFault.{FabricFault}
-use Rattle.fabric.specs.declared.types.FabricFault.TheVariants.{NoSuchPort, OnBlocked, TableFull}
+use Rattle.fabric.specs.declared.types.FabricFault.TheVariants.{OnBlocked, TableFull}
 use Rattle.fabric.specs.declared.table.Address.{Address}
 use Rattle.fabric.specs.declared.table.Side.{Side}
 use Rattle.fabric.specs.declared.table.Side.TheVariants.{Port0, Port1, OffRing}
-use Rattle.fabric.specs.declared.table.Record.{Record}
-use Rattle.fabric.specs.declared.table.Record.TheVariants.{Known}
 use Rattle.fabric.specs.declared.table.TableFabric.{TableFabric}
-use Rattle.fabric.specs.Table.{side_number, side_at, same_address, holds, is_free, put_first, side_of, found_at, blocked_at, Learning, learning_at, learning_on, learning}
+use Rattle.fabric.specs.Table.{Entry, known, side_number, side_at, same_address, holds, is_free, put_first, side_of, found_at, blocked_at, Learning, learning_at}
 use Rattle.fabric.specs.Laws.{how_many, number_of, Single, LearnLaw}
 use Rattle.fabric.proofs.Addresses.{by_cases, same_self, same_is, holds_like, free_holds_none}
 use Rattle.fabric.proofs.Searches.{first_no, first_yes, put_there}
 
 -- a known address is found where its record now says
-found_moved : (a : Address) (s : Side) (rs : List Record) → list_any (holds a) rs ≡ true → found_at a (put_first (holds a) (Known a s) rs) ≡ Some s
+found_moved : (a : Address) (s : Side) (rs : List Entry) → list_any (holds a) rs ≡ true → found_at a (put_first (holds a) (known a s) rs) ≡ Some s
 found_moved a s [] = λ h. let z : ◌≡◌ {A = ℕ} 0 1 = cc in absurd (omega arith)
 found_moved a s (r ∷ rs) = λ h.
     by_cases (holds a r) (λ e. simp (e, same_self a)) (λ e. simp e (found_moved a s rs (simp e at h)))
 
 -- a new address is found where its record says
-found_added : (a : Address) (s : Side) (rs : List Record) → list_any (holds a) rs ≡ false → list_any is_free rs ≡ true → found_at a (put_first is_free (Known a s) rs) ≡ Some s
+found_added : (a : Address) (s : Side) (rs : List Entry) → list_any (holds a) rs ≡ false → list_any is_free rs ≡ true → found_at a (put_first is_free (known a s) rs) ≡ Some s
 found_added a s [] = λ h k. let z : ◌≡◌ {A = ℕ} 0 1 = cc in absurd (omega arith)
 found_added a s (r ∷ rs) = λ h k.
     let p = or_parts (holds a r) (list_any (holds a) rs) h in
     by_cases (is_free r) (λ e. simp (e, same_self a)) (λ e. let q = p.0 in simp (e, q) (found_added a s rs p.1 (simp e at k)))
 
 -- an address that neither the old nor the new record holds is where it was
-found_other : (b : Address) (t : Record → Bool) (new : Record) → ((r : Record) → t r ≡ true → holds b r ≡ false) → holds b new ≡ false → (rs : List Record) → found_at b (put_first t new rs) ≡ found_at b rs
+found_other : (b : Address) (t : Entry → Bool) (new : Entry) → ((r : Entry) → t r ≡ true → holds b r ≡ false) → holds b new ≡ false → (rs : List Entry) → found_at b (put_first t new rs) ≡ found_at b rs
 found_other b t new h k [] = refl
 found_other b t new h k (r ∷ rs) =
     by_cases (t r) (λ e. let q = h r e in simp (e, q, k)) (λ e. simp e (ap (λ (f : Option Side). cond (holds b r) (side_of r) f) (found_other b t new h k rs)))
 
 -- how many records pass, after a record gives way to one that passes alike
-count_alike : (u t : Record → Bool) (new : Record) → ((r : Record) → t r ≡ true → u r ≡ u new) → (rs : List Record) → how_many u (put_first t new rs) ≡ how_many u rs
+count_alike : (u t : Entry → Bool) (new : Entry) → ((r : Entry) → t r ≡ true → u r ≡ u new) → (rs : List Entry) → how_many u (put_first t new rs) ≡ how_many u rs
 count_alike u t new h [] = refl
 count_alike u t new h (r ∷ rs) =
     by_cases (t r) (λ e. let q = h r e in simp (e, q)) (λ e. simp e (ap (λ (n : ℕ). cond (u r) 1 0 + n) (count_alike u t new h rs)))
 
 -- and to any other
-count_more : (u t : Record → Bool) (new : Record) (rs : List Record) → how_many u (put_first t new rs) ≤ 1 + how_many u rs
+count_more : (u t : Entry → Bool) (new : Entry) (rs : List Entry) → how_many u (put_first t new rs) ≤ 1 + how_many u rs
 count_more u t new [] = omega arith
 count_more u t new (r ∷ rs) =
     by_cases (t r) (λ e. simp e (grind arith)) (λ e. simp e (omega (arith, count_more u t new rs)))
 
-pub count_none : (u : Record → Bool) (rs : List Record) → list_any u rs ≡ false → how_many u rs ≡ 0
+pub count_none : (u : Entry → Bool) (rs : List Entry) → list_any u rs ≡ false → how_many u rs ≡ 0
 count_none u [] = λ h. refl
 count_none u (r ∷ rs) = λ h. let p = or_parts (u r) (list_any u rs) h in let q = p.0 in simp q (omega (arith, count_none u rs p.1))
 
-single_moved : (a : Address) (s : Side) (rs : List Record) → Single rs → Single (put_first (holds a) (Known a s) rs)
-single_moved a s rs h b = omega (arith, h b, count_alike (holds b) (holds a) (Known a s) (holds_like a b) rs)
+single_moved : (a : Address) (s : Side) (rs : List Entry) → Single rs → Single (put_first (holds a) (known a s) rs)
+single_moved a s rs h b = omega (arith, h b, count_alike (holds b) (holds a) (known a s) (holds_like a b) rs)
 
-single_added : (a : Address) (s : Side) (rs : List Record) → list_any (holds a) rs ≡ false → Single rs → Single (put_first is_free (Known a s) rs)
+single_added : (a : Address) (s : Side) (rs : List Entry) → list_any (holds a) rs ≡ false → Single rs → Single (put_first is_free (known a s) rs)
 single_added a s rs k h b =
     by_cases (same_address a b)
-    (λ e. omega (arith, count_more (holds b) is_free (Known a s) rs, count_none (holds b) rs (subst (λ (x : Address). list_any (holds x) rs ≡ false) (same_is a b e) k)))
-    (λ e. omega (arith, h b, count_alike (holds b) is_free (Known a s) (λ r f. free_holds_none b r f ∙ sym e) rs))
+    (λ e. omega (arith, count_more (holds b) is_free (known a s) rs, count_none (holds b) rs (subst (λ (x : Address). list_any (holds x) rs ≡ false) (same_is a b e) k)))
+    (λ e. omega (arith, h b, count_alike (holds b) is_free (known a s) (λ r f. free_holds_none b r f ∙ sym e) rs))
 
 -- learning that is refused, moves a known address, or adds a new one
-law_refused : (a : Address) (p : ℕ) (rs : List Record) (e : FabricFault) → LearnLaw a p rs (Err e) rs
+law_refused : (a : Address) (p : ℕ) (rs : List Entry) (e : FabricFault) → LearnLaw a p rs (Err e) rs
 law_refused a p rs e = record { placed = λ h. let z : ◌≡◌ {A = ℕ} 0 1 = cc in absurd (omega arith); others = λ b h. refl; single = λ h. h; unchanged = λ e h. refl }
 
 -- a call is not both taken and refused
 never_both : {P : Type 0} (r : Result (Unit {0}) FabricFault) (e : FabricFault) → r ≡ Ok tt → r ≡ Err e → P
 never_both r e g h = let z : ◌≡◌ {A = ℕ} 0 1 = cc in absurd (omega arith)
 
-law_moved : (a : Address) (p : ℕ) (s : Side) (rs : List Record) → side_number s ≡ p → list_any (holds a) rs ≡ true → LearnLaw a p rs (Ok tt) (put_first (holds a) (Known a s) rs)
+law_moved : (a : Address) (p : ℕ) (s : Side) (rs : List Entry) → side_number s ≡ p → list_any (holds a) rs ≡ true → LearnLaw a p rs (Ok tt) (put_first (holds a) (known a s) rs)
 law_moved a p s rs n k =
     record {
       placed = λ _. ap number_of (found_moved a s rs k) ∙ ap (λ (x : ℕ). Some x) n;
-      others = λ b h. found_other b (holds a) (Known a s) (λ r e. holds_like a b r e ∙ h) h rs;
+      others = λ b h. found_other b (holds a) (known a s) (λ r e. holds_like a b r e ∙ h) h rs;
       single = single_moved a s rs;
       unchanged = λ e h. never_both (Ok tt) e refl h;
     }
 
-law_added : (a : Address) (p : ℕ) (s : Side) (rs : List Record) → side_number s ≡ p → list_any (holds a) rs ≡ false → list_any is_free rs ≡ true → LearnLaw a p rs (Ok tt) (put_first is_free (Known a s) rs)
+law_added : (a : Address) (p : ℕ) (s : Side) (rs : List Entry) → side_number s ≡ p → list_any (holds a) rs ≡ false → list_any is_free rs ≡ true → LearnLaw a p rs (Ok tt) (put_first is_free (known a s) rs)
 law_added a p s rs n k f =
     record {
       placed = λ _. ap number_of (found_added a s rs k f) ∙ ap (λ (x : ℕ). Some x) n;
-      others = λ b h. found_other b is_free (Known a s) (free_holds_none b) h rs;
+      others = λ b h. found_other b is_free (known a s) (free_holds_none b) h rs;
       single = single_added a s rs k;
       unchanged = λ e h. never_both (Ok tt) e refl h;
     }
@@ -106,7 +104,7 @@ named None e s h = absurd cc
 named (Some q) e s h = cc
 
 -- the law of a call at a side that its number names
-pub law_after : (t : TableFabric) (a : Address) (p : ℕ) (s : Side) {r : Result (Unit {0}) FabricFault} {last : List Record} → side_at p ≡ Some s
+pub law_after : (t : TableFabric) (a : Address) (p : ℕ) (s : Side) {r : Result (Unit {0}) FabricFault} {last : List Entry} → side_at p ≡ Some s
     → r ≡ (learning_at t a p s).answer → last ≡ (learning_at t a p s).after → LearnLaw a p t.records r last
 law_after t a p s n x y = rw (x, y) (law_at t a p s (side_back p s n))
 
@@ -115,27 +113,27 @@ by_place : {P : Type 0} (o : Option ℕ) → (o ≡ None → P) → ((i : ℕ) �
 by_place None f g = f refl
 by_place (Some i) f g = g i refl
 
-abbrev held : Address → List Record → Option ℕ
+abbrev held : Address → List Entry → Option ℕ
 held a rs = position_from (holds a) 0 rs
 
-abbrev free : List Record → Option ℕ
+abbrev free : List Entry → Option ℕ
 free rs = position_from is_free 0 rs
 
 pub way_taken : (t : TableFabric) (a : Address) (p : ℕ) (s : Side) (i : ℕ) → blocked_at t.blocked s ≡ false
     → option_or (held a t.records) (free t.records) ≡ Some i
-    → (Ok tt ≡ (learning_at t a p s).answer) × (set t.records i (Known a s) ≡ (learning_at t a p s).after)
+    → (Ok tt ≡ (learning_at t a p s).answer) × (set t.records i (known a s) ≡ (learning_at t a p s).after)
 way_taken t a p s i b h =
     by_place (held a t.records)
     (λ n.
     let f : free t.records ≡ Some i = rw n at h in
     let none = first_no (holds a) t.records n in
     let some = first_yes is_free i t.records f in
-    (rw (b, none, some), rw (b, none, some) (put_there is_free (Known a s) i t.records f)))
+    (rw (b, none, some), rw (b, none, some) (put_there is_free (known a s) i t.records f)))
     (λ j e.
     let f : Some j ≡ Some i = rw e at h in
     let g : held a t.records ≡ Some i = e ∙ f in
     let some = first_yes (holds a) i t.records g in
-    (rw (b, some), rw (b, some) (put_there (holds a) (Known a s) i t.records g)))
+    (rw (b, some), rw (b, some) (put_there (holds a) (known a s) i t.records g)))
 
 pub way_full : (t : TableFabric) (a : Address) (p : ℕ) (s : Side) → blocked_at t.blocked s ≡ false
     → option_or (held a t.records) (free t.records) ≡ None

@@ -9,7 +9,6 @@ use Rattle.fabric.specs.declared.table.Address.{Address}
 use Rattle.fabric.specs.declared.table.Side.{Side}
 use Rattle.fabric.specs.declared.table.Side.TheVariants.{Port0, Port1, OffRing}
 use Rattle.fabric.specs.declared.table.Record.{Record}
-use Rattle.fabric.specs.declared.table.Record.TheVariants.{Free, Known}
 use Rattle.fabric.specs.declared.table.TableFabric.{TableFabric}
 use Rattle.fabric.specs.Marks.{Marks, no_port}
 
@@ -30,39 +29,46 @@ side_at (suc (suc (suc n))) = None
 abbrev pub same_address : Address → Address → Bool
 same_address a b = bytes_eq a.octets b.octets
 
--- the record holds this address
-abbrev pub holds : Address → Record → Bool
-holds a Free = false
-holds a (Known b s) = same_address b a
+-- a place of the table, which is free or has a record
+abbrev pub Entry : Type 0
+Entry = Option Record
 
--- the record is of the port of this number
-abbrev pub of_port : ℕ → Record → Bool
-of_port p Free = false
-of_port p (Known a s) = side_number s == p
+abbrev pub known : Address → Side → Entry
+known a s = Some (record { address = a; at = s })
 
--- the record is free
-abbrev pub is_free : Record → Bool
-is_free Free = true
-is_free (Known a s) = false
+-- its record holds this address
+abbrev pub holds : Address → Entry → Bool
+holds a None = false
+holds a (Some r) = same_address r.address a
 
--- the first record that passes gives way to a new one
-abbrev pub put_first : (Record → Bool) → Record → List Record → List Record
+-- its record is of the port of this number
+abbrev pub of_port : ℕ → Entry → Bool
+of_port p None = false
+of_port p (Some r) = side_number r.at == p
+
+-- it is free
+abbrev pub is_free : Entry → Bool
+is_free None = true
+is_free (Some r) = false
+
+-- the first entry that passes gives way to a new one
+abbrev pub put_first : (Entry → Bool) → Entry → List Entry → List Entry
 put_first t new [] = []
 put_first t new (r ∷ rs) = cond (t r) (new ∷ rs) (r ∷ put_first t new rs)
 
--- where a record says that its address is
-abbrev pub side_of : Record → Option Side
-side_of Free = None
-side_of (Known a s) = Some s
+-- where it says that its address is
+abbrev pub side_of : Entry → Option Side
+side_of None = None
+side_of (Some r) = Some r.at
 
 -- where an address is: what the first record that holds it says
-abbrev pub found_at : Address → List Record → Option Side
+abbrev pub found_at : Address → List Entry → Option Side
 found_at a [] = None
 found_at a (r ∷ rs) = cond (holds a r) (side_of r) (found_at a rs)
 
--- a table as it is made: every record free, no port blocked
+-- a table as it is made: every place free, no port blocked
 abbrev pub empty_table : TableFabric
-empty_table = record { blocked = no_port; records = replicate 64 Free }
+empty_table = record { blocked = no_port; records = replicate 64 None }
 
 -- taught at a ring port: some record of that port stands
 abbrev pub table_marks : TableFabric → Marks
@@ -71,19 +77,25 @@ table_marks t = record {
   taught = record { p0 = list_any (of_port 0) t.records; p1 = list_any (of_port 1) t.records };
 }
 
--- the octets of an address off the ring, and nothing of any other record
-abbrev pub off_ring_octets : Record → List ℕ
-off_ring_octets Free = []
-off_ring_octets (Known a Port0) = []
-off_ring_octets (Known a Port1) = []
-off_ring_octets (Known a OffRing) = a.octets
+-- the octets of an address off the ring, and nothing of any other entry
+abbrev pub octets_at : Side → Address → List ℕ
+octets_at Port0 a = []
+octets_at Port1 a = []
+octets_at OffRing a = a.octets
 
--- flush frees a record of a ring port, and leaves any other
-abbrev pub freed : Record → Record
-freed Free = Free
-freed (Known a Port0) = Free
-freed (Known a Port1) = Free
-freed (Known a OffRing) = Known a OffRing
+abbrev pub off_ring_octets : Entry → List ℕ
+off_ring_octets None = []
+off_ring_octets (Some r) = octets_at r.at r.address
+
+-- flush frees the place of a record of a ring port, and leaves any other
+abbrev pub left_at : Side → Record → Entry
+left_at Port0 r = None
+left_at Port1 r = None
+left_at OffRing r = Some r
+
+abbrev pub freed : Entry → Entry
+freed None = None
+freed (Some r) = left_at r.at r
 
 -- a ring port may be blocked; off the ring nothing is
 abbrev pub blocked_at : Ports → Side → Bool
@@ -94,22 +106,22 @@ blocked_at m OffRing = false
 -- what learning answers, and the records after it
 pub record Learning : Type 0 where
   pub answer : Result (Unit {0}) FabricFault
-  pub after : List Record
+  pub after : List Entry
 
 -- a refusal changes nothing
 abbrev pub refuse : TableFabric → FabricFault → Learning
 refuse t e = record { answer = Err e; after = t.records }
 
 -- learning that is taken
-abbrev pub accept : List Record → Learning
+abbrev pub accept : List Entry → Learning
 accept rs = record { answer = Ok tt; after = rs }
 
 -- at a blocked port refused; a known address moves in place, a new one takes the first free record; else the table is full
 abbrev pub learning_at : TableFabric → Address → ℕ → Side → Learning
 learning_at t a p s =
     cond (blocked_at t.blocked s) (refuse t (OnBlocked p))
-    (cond (list_any (holds a) t.records) (accept (put_first (holds a) (Known a s) t.records))
-    (cond (list_any is_free t.records) (accept (put_first is_free (Known a s) t.records))
+    (cond (list_any (holds a) t.records) (accept (put_first (holds a) (known a s) t.records))
+    (cond (list_any is_free t.records) (accept (put_first is_free (known a s) t.records))
     (refuse t (TableFull p))))
 
 -- a number that names no side is refused before all else

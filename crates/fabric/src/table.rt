@@ -7,7 +7,7 @@ ghost use Rattle.std.specs.Option.{ok_or};
 ghost use Rattle.fabric.specs.declared.types.FabricFault.TheVariants.{NoSuchPort};
 
 use super::fabric::Fabric;
-use super::records::{free_ring, has_side, place_for, place_of};
+use super::records::{free_ring, has_side, place_for, place_of, side};
 use super::types::{FabricFault, Ports, of_port};
 
 // An Ethernet address.
@@ -24,17 +24,18 @@ pub enum Side {
     OffRing,
 }
 
-// A place of the table.
+// What the table knows of an address.
 #[derive(Clone, Copy, PartialEq, Eq, Debug)]
-pub enum Record {
-    Free,
-    Known { address: Address, at: Side },
+pub struct Record {
+    pub address: Address,
+    pub at: Side,
 }
 
+// A place without a record is free.
 #[derive(Clone, Copy, PartialEq, Eq, Debug)]
 pub struct TableFabric {
     pub blocked: Ports,
-    pub records: [Record; 64],
+    pub records: [Option<Record>; 64],
 }
 
 // The number of its port.
@@ -67,7 +68,7 @@ impl TryFrom<u8> for Side {
 }
 
 impl TableFabric {
-    // Every record is free, and no port is blocked.
+    // Every place is free, and no port is blocked.
     pub fn new() -> TableFabric
         ensures value { result ≡ empty_table }
         ensures single { Single result.records }
@@ -77,7 +78,7 @@ impl TableFabric {
                 p0: false,
                 p1: false,
             },
-            records: [Record::Free; 64],
+            records: [None; 64],
         }
     }
 
@@ -97,11 +98,11 @@ impl TableFabric {
         ensures value { result ≡ found_at address self.now.records }
     {
         let place = place_of(&self.records, address)?;
-        self.records[place].side()
+        side(self.records[place])
     }
 
     // Learns that an address is at a port: 0 and 1 on the ring, 2 off it.
-    // A known address moves in place, a new one takes the first free record.
+    // A known address moves in place, a new one takes the first free place.
     pub fn learn(&mut self, address: Address, port: u8) -> Result<(), FabricFault>
         ensures answer { result ≡ (learning self.old address port).answer }
         ensures after { self.new.records ≡ (learning self.old address port).after }
@@ -124,7 +125,7 @@ impl TableFabric {
         let Some(place) = place_for(&self.records, address) else {
             return Err(FabricFault::TableFull { port });
         };
-        self.records[place] = Record::Known { address, at: side };
+        self.records[place] = Some(Record { address, at: side });
         Ok(())
     }
 }

@@ -11,11 +11,11 @@ fn address(last: u8) -> Address {
     }
 }
 
-fn known(last: u8, at: Side) -> Record {
-    Record::Known {
+fn known(last: u8, at: Side) -> Option<Record> {
+    Some(Record {
         address: address(last),
         at,
-    }
+    })
 }
 
 // Blocked 0, blocked 1, taught 0, taught 1.
@@ -87,7 +87,7 @@ fn known_address_moves_in_place(rt: HostRuntime) -> Result<(), Fail> {
     table.learn(address(1), 2)?;
     assert_eq!(rt; table.records[0], known(1, Side::OffRing));
     assert_eq!(rt; table.records[1], known(2, Side::Port1));
-    assert_eq!(rt; table.records[2], Record::Free);
+    assert_eq!(rt; table.records[2], None);
     assert_eq!(rt; table.lookup(address(1)), Some(Side::OffRing));
     Ok(())
 }
@@ -99,12 +99,12 @@ fn new_address_takes_the_first_free_record(rt: HostRuntime) -> Result<(), Fail> 
     table.learn(address(2), 2)?;
     table.learn(address(3), 1)?;
     table.flush();
-    assert_eq!(rt; table.records[0], Record::Free);
+    assert_eq!(rt; table.records[0], None);
     assert_eq!(rt; table.records[1], known(2, Side::OffRing));
-    assert_eq!(rt; table.records[2], Record::Free);
+    assert_eq!(rt; table.records[2], None);
     table.learn(address(4), 1)?;
     assert_eq!(rt; table.records[0], known(4, Side::Port1));
-    assert_eq!(rt; table.records[2], Record::Free);
+    assert_eq!(rt; table.records[2], None);
     Ok(())
 }
 

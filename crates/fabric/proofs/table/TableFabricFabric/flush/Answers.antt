@@ -1,7 +1,6 @@
 use Rattle.std.proofs.Common.{List, map, sym, refl, ap, ◌∙◌, subst}
-use Rattle.fabric.specs.declared.table.Record.{Record}
 use Rattle.fabric.specs.Laws.{FlushLaw}
-use Rattle.fabric.specs.Table.{off_ring_octets}
+use Rattle.fabric.specs.Table.{Entry, off_ring_octets}
 use Rattle.fabric.proofs.Flushing.{marks_freed, kept_freed, flush_law}
 use Rattle.fabric.proofs.table.TableFabricFabric.flush.Goals as goal
 
@@ -14,5 +13,5 @@ returns c =
       same = ap (map off_ring_octets) e ∙ kept_freed rs;
       records = e;
       blocks = refl;
-      law = subst (λ (q : List Record). FlushLaw rs q) (sym e) (flush_law rs);
+      law = subst (λ (q : List Entry). FlushLaw rs q) (sym e) (flush_law rs);
     }
