@@ -2,6 +2,7 @@
 use Rattle.std.proofs.Common.{◌≡◌, true, false, ◌&&◌, is_some, refl, arith}
 use Rattle.std.proofs.lemmas.Bool.{and_parts, and_from, or_right}
 use Rattle.fabric.specs.declared.types.Ports.{Ports}
+use Rattle.node.specs.declared.types.Delay.TheVariants.{Wtr, Wtb}
 use Rattle.node.specs.declared.types.NodeValues.{NodeValues}
 use Rattle.node.specs.declared.types.Outcome.{Outcome}
 use Rattle.node.specs.declared.types.Port.{Port}
@@ -16,7 +17,7 @@ use Rattle.node.specs.Rows.{seize_failed, force_new, force_more, manual_row, res
 use Rattle.node.specs.Rules.{settings_ok, timers_ok}
 use Rattle.node.proofs.Lawful.{Sound, Runs}
 use Rattle.node.proofs.Split.{in_cond}
-use Rattle.node.proofs.Timing.{stopped_ok, wtr_ok, wtb_ok}
+use Rattle.node.proofs.Timing.{stopped_ok, awaits_ok}
 
 within_self : (f : Ports) → within f f ≡ true
 within_self f = grind arith
@@ -87,7 +88,7 @@ release_sound v g b f =
       failed = grind arith;
       forced = refl;
       sending = grind arith;
-      timers = wtb_ok v 50 refl;
+      timers = awaits_ok v.settings Wtb 50 refl;
       idle = grind arith;
     })
     (λ n. absurd (grind arith))
@@ -124,7 +125,7 @@ clear_fail_sound v g b f = record {
   failed = grind arith;
   forced = refl;
   sending = grind arith;
-  timers = wtr_ok v 50 refl;
+  timers = awaits_ok v.settings Wtr 50 refl;
   idle = grind arith;
 }
 

@@ -7,6 +7,7 @@ use Rattle.frame.specs.declared.types.Message.{Message}
 use Rattle.std.proofs.lemmas.Bool.Decides.{nat_tests}
 use Rattle.fabric.specs.declared.types.Ports.{Ports}
 use Rattle.frame.specs.declared.types.Request.{Request}
+use Rattle.node.specs.declared.types.Delay.TheVariants.{Wtr}
 use Rattle.node.specs.declared.types.NodeValues.{NodeValues}
 use Rattle.node.specs.declared.types.Settings.{Settings}
 use Rattle.node.specs.Calls.{due_message}
@@ -17,7 +18,7 @@ use Rattle.node.specs.Rules.{makes_node, settings_ok, due_ok}
 use Rattle.node.specs.Settling.{lowered, started, restarted, is_due, frame_taken}
 use Rattle.node.proofs.Actions.{present_sound}
 use Rattle.node.proofs.Lawful.{Sound, Bursts, all_rules}
-use Rattle.node.proofs.Timing.{start_ok}
+use Rattle.node.proofs.Timing.{awaits_ok}
 
 pub lowered_burst : (v : NodeValues) → Bursts v → Bursts (lowered v)
 lowered_burst v b = grind (arith, nat_tests)
@@ -32,7 +33,7 @@ started_sound g f e n = record {
   failed = grind arith;
   forced = refl;
   sending = grind arith;
-  timers = start_ok g;
+  timers = awaits_ok g Wtr 0 refl;
   idle = refl;
 }
 
@@ -42,7 +43,7 @@ started_keeps g e = all_rules (started g none) (started_sound g none e refl) ref
 pub restart_keeps : (v : NodeValues) → settings_ok v.settings ≡ true → makes_node (restarted v).values ≡ true
 restart_keeps v e =
     let w = started v.settings v.failed in
-    let s = present_sound w e (start_ok v.settings) (λ n. started_sound v.settings v.failed e n) in
+    let s = present_sound w e (awaits_ok v.settings Wtr 0 refl) (λ n. started_sound v.settings v.failed e n) in
     all_rules (restarted v).values
     (record { settings = s.settings; failed = s.failed; forced = s.forced; sending = s.sending; timers = s.timers; idle = s.idle })
     (fresh_burst (present w).values.sending.request)

@@ -1,8 +1,9 @@
 -- Each row of a received message keeps the rules. Assumes nothing.
-use Rattle.std.proofs.Common.{◌≡◌, ℕ, suc, ◌≤◌, max, Bool, true, false, cond, not, ◌&&◌, eqb, ltb, [], ◌∷◌, is_some, Some, None, Option, sym, refl, ◌∙◌, arith, lit≤}
+use Rattle.std.proofs.Common.{◌≡◌, ℕ, suc, ◌≤◌, max, Bool, true, false, cond, not, ◌&&◌, eqb, ltb, List, [], ◌∷◌, is_some, Some, None, Option, sym, refl, ◌∙◌, arith, lit≤}
 use Rattle.std.proofs.lemmas.Bool.{and_parts, not-true, eqb-true}
+use Rattle.std.specs.Bool.{then_some}
 use Rattle.std.specs.Option.{option_map}
-use Rattle.frame.specs.Highest.{first_highest, highest_rank}
+use Rattle.frame.specs.Highest.{first_highest, highest_rank, option_rank}
 use Rattle.frame.specs.declared.types.Body.{Body}
 use Rattle.frame.specs.declared.types.Body.TheVariants.{Event, Signal}
 use Rattle.frame.specs.declared.types.Message.{Message}
@@ -12,6 +13,8 @@ use Rattle.frame.specs.declared.types.Request.TheVariants.{NoRequest, RplBlocked
 use Rattle.node.specs.declared.claims.Claim.{Claim}
 use Rattle.node.specs.declared.claims.Claim.TheVariants.{LocalFail, WtrRunning, WtbRunning}
 use Rattle.node.specs.declared.claims.Claim.TheVariants.{Forced as ForcingClaim, Manual as ManualClaim}
+use Rattle.node.specs.declared.types.Delay.{Delay}
+use Rattle.node.specs.declared.types.Delay.TheVariants.{Wtr, Wtb}
 use Rattle.node.specs.declared.types.Heard.{Heard}
 use Rattle.node.specs.declared.types.NodeValues.{NodeValues}
 use Rattle.node.specs.declared.types.Outcome.{Outcome}
@@ -23,18 +26,18 @@ use Rattle.node.specs.declared.types.State.{State}
 use Rattle.node.specs.declared.types.State.TheVariants.{Idle, Protection, Pending}
 use Rattle.node.specs.declared.types.State.TheVariants.{ManualSwitch as Manual, ForcedSwitch as Forced}
 use Rattle.node.specs.declared.types.Timers.{Timers}
-use Rattle.node.specs.Claims.{claim_of, claim_rank, slot_rank, slot_if, standing, is_first, reaches, fail_stands}
+use Rattle.node.specs.Claims.{claim_of, claim_rank, standing, is_first, reaches, fail_stands}
 use Rattle.node.specs.Names.{by_state, is_owner, is_other}
 use Rattle.node.specs.Ports.{some, implies, meet}
 use Rattle.node.specs.Receiving.{is_own, noted, reaches_row, row_of, flush_logic, after_body, after_message}
-use Rattle.node.specs.Rows.{heard_forced, heard_fail, heard_manual, heard_rpl_blocked, heard_no_request, heard_row, higher, pend, present, yield_to, to_idle, no_commands, quiet_unless_owner, await_wtr, await_wtb}
+use Rattle.node.specs.Rows.{heard_forced, heard_fail, heard_manual, heard_rpl_blocked, heard_no_request, heard_row, higher, pend, present, yield_to, to_idle, no_commands, quiet_unless_owner, awaits}
 use Rattle.node.specs.Rules.{makes_node, idle_ports, settings_ok, failed_ok, sending_ok, timers_ok, idle_ok}
 use Rattle.node.specs.Settling.{settle}
 use Rattle.node.proofs.Actions.{Free, hear_force_sound, yield_sound, release_sound, pend_sound, present_sound}
 use Rattle.node.proofs.Keeps.{Keeps, none_failed}
 use Rattle.node.proofs.Lawful.{Sound, Failed, Forcing, Speaks, Runs, Rests, Bursts, owed, all_rules}
 use Rattle.node.proofs.Split.{in_state, in_cond}
-use Rattle.node.proofs.Timing.{guard_ok, wtr_ok, wtb_ok, pend_ok, stopped_ok}
+use Rattle.node.proofs.Timing.{guard_ok, awaits_ok, pend_ok, stopped_ok}
 
 -- ---- what it means to be the highest
 
@@ -47,25 +50,30 @@ first_tops true o e = refl
 first_tops false o e = sym (later_not_first o) ∙ e
 
 -- nothing that stands ranks higher
-pub none_higher : (v : NodeValues) (c : Claim) → reaches v c ≡ true → highest_rank slot_rank (standing v) ≤ claim_rank c
+abbrev pub standing_rank : NodeValues → ℕ
+standing_rank v = highest_rank (option_rank claim_rank) (standing v)
+
+pub none_higher : (v : NodeValues) (c : Claim) → reaches v c ≡ true → standing_rank v ≤ suc (claim_rank c)
 unfolding reaches first_highest
 none_higher v c e =
-    let top : eqb (claim_rank c) (max (claim_rank c) (highest_rank slot_rank (standing v))) ≡ true = first_tops _ _ e in
-    let same : claim_rank c ≡ max (claim_rank c) (highest_rank slot_rank (standing v)) = eqb-true _ _ top in
+    let top : eqb (suc (claim_rank c)) (max (suc (claim_rank c)) (standing_rank v)) ≡ true = first_tops _ _ e in
+    let same : suc (claim_rank c) ≡ max (suc (claim_rank c)) (standing_rank v) = eqb-true _ _ top in
     omega arith
 
-low_slots : (a b c d e : Bool) (n : ℕ) → n ≤ 2
-    → highest_rank slot_rank (slot_if a ForcingClaim ∷ slot_if b LocalFail ∷ slot_if c ManualClaim ∷ slot_if d WtrRunning ∷ slot_if e WtbRunning ∷ []) ≤ n
+abbrev pub five : Bool → Bool → Bool → Bool → Bool → List (Option Claim)
+five a b c d e = then_some a ForcingClaim ∷ then_some b LocalFail ∷ then_some c ManualClaim ∷ then_some d WtrRunning ∷ then_some e WtbRunning ∷ []
+
+low_claims : (a b c d e : Bool) (n : ℕ) → n ≤ 3 → highest_rank (option_rank claim_rank) (five a b c d e) ≤ n
     → (a ≡ false) × (b ≡ false) × (c ≡ false)
-low_slots true b c d e n l h = absurd (omega arith)
-low_slots false true c d e n l h = absurd (omega arith)
-low_slots false false true d e n l h = absurd (omega arith)
-low_slots false false false d e n l h = (refl, refl, refl)
+low_claims true b c d e n l h = absurd (omega arith)
+low_claims false true c d e n l h = absurd (omega arith)
+low_claims false false true d e n l h = absurd (omega arith)
+low_claims false false false d e n l h = (refl, refl, refl)
 
 -- NR and NR,RB reach a row only where no command is in force and no failure stands
 pub free_of : (v : NodeValues) (c : Claim) → claim_rank c ≤ 2 → reaches v c ≡ true → Free v
 free_of v c l e =
-    let f = low_slots (some v.commands.forced) (fail_stands v) (is_some v.commands.manual) (ltb 0 v.timers.wtr) (ltb 0 v.timers.wtb) (claim_rank c) l (none_higher v c e) in
+    let f = low_claims (some v.commands.forced) (fail_stands v) (is_some v.commands.manual) (ltb 0 v.timers.wtr) (ltb 0 v.timers.wtb) (suc (claim_rank c)) (omega arith) (none_higher v c e) in
     record { forced = f.0; failed = f.1; manual = f.2 }
 
 -- ---- the rows
@@ -161,13 +169,12 @@ heard_rpl_blocked_keeps v s n m =
 heard_no_request_keeps : (v : NodeValues) (i : NodeId) → Sound v → Free v → Sound (heard_no_request v i).values
 heard_no_request_keeps v i s n =
     let g = guard_ok v s.timers in
-    let wtr = wtr_ok v v.timers.guard g in
-    let wtb = wtb_ok v v.timers.guard g in
+    let waits : (d : Delay) → timers_ok v.settings.role v.settings.revertive Pending (awaits v.settings d v.timers.guard) ≡ true = λ d. awaits_ok v.settings d v.timers.guard g in
     in_state Keeps v.state _ _ _ _ _
     (λ e. in_cond Keeps (is_other v.settings.role && higher v i) _ _ (λ h. yields v Idle s (rw e refl) (and_parts (is_other v.settings.role) _ h).0) (λ _. s))
-    (λ e. pends v (await_wtr v v.timers.guard) s n (rw e refl) wtr)
-    (λ e. pends v (await_wtb v v.timers.guard) s n (rw e refl) wtb)
-    (λ e. pends_forced v (await_wtb v v.timers.guard) s n e wtb)
+    (λ e. pends v (awaits v.settings Wtr v.timers.guard) s n (rw e refl) (waits Wtr))
+    (λ e. pends v (awaits v.settings Wtb v.timers.guard) s n (rw e refl) (waits Wtb))
+    (λ e. pends_forced v (awaits v.settings Wtb v.timers.guard) s n e (waits Wtb))
     (λ e. in_cond Keeps (higher v i) _ _ (λ _. yields v Pending s (rw e refl) refl) (λ _. s))
 
 heard_keeps : (r : Request) (v : NodeValues) (i : NodeId) → Sound v → (claim_rank (claim_of r) ≤ 2 → Free v) → (r ≡ RplBlocked → Marked v) → Sound (heard_row r v i).values

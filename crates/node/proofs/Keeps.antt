@@ -2,6 +2,7 @@
 use Rattle.std.proofs.Common.{◌≡◌, true, false, refl, arith}
 use Rattle.std.proofs.lemmas.Bool.Decides.{nat_tests}
 use Rattle.fabric.specs.declared.types.Ports.{Ports}
+use Rattle.node.specs.declared.types.Delay.TheVariants.{Wtb}
 use Rattle.node.specs.declared.types.NodeValues.{NodeValues}
 use Rattle.node.specs.declared.types.Outcome.{Outcome}
 use Rattle.node.specs.declared.types.Port.{Port}
@@ -16,7 +17,7 @@ use Rattle.node.specs.Settling.{lowered, tick_row, expires}
 use Rattle.node.proofs.Actions.{force_new_sound, force_more_sound, manual_sound, rest_sound, release_sound, seize_failed_sound, clear_fail_sound, present_sound, some_marked}
 use Rattle.node.proofs.Lawful.{Sound, Failed, Forcing, Runs}
 use Rattle.node.proofs.Split.{in_state, in_cond}
-use Rattle.node.proofs.Timing.{wtb_ok, lowered_ok, pend_ok}
+use Rattle.node.proofs.Timing.{awaits_ok, lowered_ok, pend_ok}
 
 abbrev pub Keeps : Outcome → Type 0
 Keeps o = Sound o.values
@@ -84,7 +85,7 @@ forced_blocks : (v : NodeValues) → v.state ≡ Forced → takes_clear v ≡ tr
 forced_blocks v e m c = grind arith
 
 release_runs : (v : NodeValues) → Runs v → Runs (release v)
-release_runs v t = in_cond Runs (some v.blocked) _ _ (λ _. wtb_ok v 50 refl) (λ _. pend_ok v t)
+release_runs v t = in_cond Runs (some v.blocked) _ _ (λ _. awaits_ok v.settings Wtb 50 refl) (λ _. pend_ok v t)
 
 release_settings : (v : NodeValues) → settings_ok v.settings ≡ true → settings_ok (release v).settings ≡ true
 release_settings v g = in_cond (λ (w : NodeValues). settings_ok w.settings ≡ true) (some v.blocked) _ _ (λ _. g) (λ _. g)

@@ -6,3 +6,4 @@ pub mod Meaning
 pub mod Frames
 pub mod Split
 pub mod Timing
+pub mod Steps

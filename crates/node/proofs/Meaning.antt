@@ -1,8 +1,9 @@
 -- The laws of the calls. Assumes nothing.
-use Rattle.std.proofs.Common.{◌≡◌, ℕ, ◌≤◌, max, Bool, true, false, cond, not, ◌&&◌, ◌||◌, eqb, ltb, List, [], ◌∷◌, is_some, Some, Option, sym, refl, ap, ◌∙◌, arith, lit≤}
+use Rattle.std.proofs.Common.{◌≡◌, ℕ, suc, ◌≤◌, max, Bool, true, false, cond, not, ◌&&◌, ◌||◌, eqb, ltb, is_some, Some, Option, sym, refl, ap, ◌∙◌, arith, lit≤}
 use Rattle.std.proofs.lemmas.Bool.Decides.{nat_tests}
 use Rattle.std.proofs.lemmas.Bool.{and_parts, both_ways, eq-eqb}
-use Rattle.frame.specs.Highest.{first_highest, highest_rank}
+use Rattle.std.specs.Bool.{then_some}
+use Rattle.frame.specs.Highest.{first_highest, highest_rank, option_rank}
 use Rattle.fabric.specs.declared.types.Ports.{Ports}
 use Rattle.frame.specs.declared.types.Body.{Body}
 use Rattle.frame.specs.declared.types.Body.TheVariants.{Event, Signal}
@@ -13,7 +14,8 @@ use Rattle.frame.specs.declared.types.Request.TheVariants.{NoRequest, RplBlocked
 use Rattle.node.specs.declared.claims.Claim.{Claim}
 use Rattle.node.specs.declared.claims.Claim.TheVariants.{Clear, LocalFail, LocalClearFail, WtrExpires, WtrRunning, WtbExpires, WtbRunning}
 use Rattle.node.specs.declared.claims.Claim.TheVariants.{Forced as ForcedClaim, Manual as ManualClaim}
-use Rattle.node.specs.declared.claims.Slot.{Slot}
+use Rattle.node.specs.declared.types.Delay.TheVariants.{Wtb}
+use Rattle.node.specs.declared.node.Node.{Node}
 use Rattle.node.specs.declared.types.Heard.{Heard}
 use Rattle.node.specs.declared.types.NodeValues.{NodeValues}
 use Rattle.node.specs.declared.types.Outcome.{Outcome}
@@ -25,19 +27,19 @@ use Rattle.node.specs.declared.types.Settings.{Settings}
 use Rattle.node.specs.declared.types.State.{State}
 use Rattle.node.specs.declared.types.State.TheVariants.{Idle, Protection, Pending}
 use Rattle.node.specs.declared.types.State.TheVariants.{ManualSwitch as Manual, ForcedSwitch as Forced}
-use Rattle.node.specs.Calls.{Call, forced, switched, failed, repaired, cleared, ticked, restarts, takes_frame, heard, takes_manual}
-use Rattle.node.specs.Claims.{claim_of, claim_rank, slot_rank, slot_if, standing, fail_stands, is_first, reaches}
+use Rattle.node.specs.Calls.{Call, forced, switched, failed, repaired, cleared, ticked, restarts, takes_frame, heard, outcome, takes_manual}
+use Rattle.node.specs.Claims.{claim_of, claim_rank, fail_stands, is_first, reaches}
 use Rattle.node.specs.Laws.{after, MayBeTaken, is_heard, RulesKept, KeepsABlock, OwnMovesNoPort, EventChangesNoValue, FailedMarks, ForcedMarks, RulesPromise, body_sets, MarkLaw, LocalReaches, SettingsKept, IdleYields, named_port}
 use Rattle.node.specs.Names.{by_state, is_owner, is_other, is_sending}
 use Rattle.node.specs.Ports.{none, only, at, with_mark, some, meet, same}
 use Rattle.node.specs.Receiving.{is_own, noted, reaches_row, row_of, flush_logic, after_body, after_message}
-use Rattle.node.specs.Rows.{force_row, manual_row, fail_row, repair_row, clear_row, release, present, heard_row, to_idle, higher, pend, await_wtb, still}
+use Rattle.node.specs.Rows.{force_row, manual_row, fail_row, repair_row, clear_row, release, present, heard_row, to_idle, higher, pend, pend_for, still}
 use Rattle.node.specs.Rules.{makes_node, idle_ports}
 use Rattle.node.specs.Settling.{settle, lowered, tick_row, restarted, started, expires, frame_taken, with_pairs}
 use Rattle.node.proofs.Frames.{lowered_burst, started_keeps, restart_keeps, frame_burst}
-use Rattle.node.proofs.Hearing.{message_keeps, free_of}
+use Rattle.node.proofs.Hearing.{message_keeps, free_of, standing_rank, five}
 use Rattle.node.proofs.Keeps.{waits, force_keeps, manual_keeps, fail_keeps, repair_keeps, clear_keeps, tick_keeps}
-use Rattle.node.proofs.Lawful.{Sound, Failed, Forcing, Speaks, Runs, Rests, parts, all_rules, owed}
+use Rattle.node.proofs.Lawful.{Sound, Failed, Forcing, Speaks, Runs, Rests, parts, of_node, all_rules, owed}
 use Rattle.node.proofs.Split.{in_state, in_cond}
 
 -- ---- every call keeps the rules
@@ -57,6 +59,10 @@ calls_keep takes_frame v m t =
     (record { settings = s.settings; failed = s.failed; forced = s.forced; sending = s.sending; timers = s.timers; idle = s.idle })
     (frame_burst v t r.burst)
 calls_keep (heard p q) v m t = let r = parts v m in message_keeps v p q r.sound r.burst
+
+-- of a node, what a call that is taken gives
+pub taken_keeps : (k : Call) (n : Node) (o : Outcome) → MayBeTaken k n.values → o ≡ outcome k n.values → makes_node o.values ≡ true
+taken_keeps k n o t e = rw e (calls_keep k n.values (all_rules n.values (of_node n) n.burst) t)
 
 pub rules_kept : RulesKept
 rules_kept = record { set_up = started_keeps; calls = calls_keep }
@@ -174,7 +180,7 @@ heard_failed RplBlocked v i =
 heard_failed NoRequest v i =
     in_state (Fails v.failed) v.state _ _ _ _ _
     (λ _. in_cond (Fails v.failed) (is_other v.settings.role && higher v i) _ _ (λ _. refl) (λ _. refl))
-    (λ _. refl) (λ _. refl) (λ _. present_failed (pend v (await_wtb v v.timers.guard)))
+    (λ _. refl) (λ _. refl) (λ _. present_failed (pend_for v Wtb))
     (λ _. in_cond (Fails v.failed) (higher v i) _ _ (λ _. refl) (λ _. refl))
 
 -- what a message does to a part that neither settling nor the flush logic reads
@@ -314,7 +320,7 @@ heard_forces r v i c n = by_request r n
         let z = sym (no_ports v.commands.forced (n (lit≤ tt))) in
         in_state (Has v.commands.forced) v.state _ _ _ _ _
         (λ _. in_cond (Has v.commands.forced) (is_other v.settings.role && higher v i) _ _ (λ _. z) (λ _. refl))
-        (λ _. z) (λ _. z) (λ _. present_none (pend v (await_wtb v v.timers.guard)) refl ∙ z)
+        (λ _. z) (λ _. z) (λ _. present_none (pend_for v Wtb) refl ∙ z)
         (λ _. in_cond (Has v.commands.forced) (higher v i) _ _ (λ _. z) (λ _. refl))
 
 row_forces : (v : NodeValues) (q : Heard) → Forcing v → (row_of v q).values.commands.forced ≡ v.commands.forced
@@ -415,7 +421,7 @@ heard_fixes r v i = by_request r
     by_request NoRequest =
         in_state (Fixes v) v.state _ _ _ _ _
         (λ _. in_cond (Fixes v) (is_other v.settings.role && higher v i) _ _ (λ _. refl) (λ _. refl))
-        (λ _. refl) (λ _. refl) (λ _. presents (pend v (await_wtb v v.timers.guard))) (λ _. in_cond (Fixes v) (higher v i) _ _ (λ _. refl) (λ _. refl))
+        (λ _. refl) (λ _. refl) (λ _. presents (pend_for v Wtb)) (λ _. in_cond (Fixes v) (higher v i) _ _ (λ _. refl) (λ _. refl))
 
 row_fixes : (v : NodeValues) (q : Heard) → fixed (row_of v q).values ≡ fixed (noted v q)
 row_fixes v q =
@@ -501,44 +507,42 @@ tops true o e = refl
 tops false o e = absurd (both_ways false refl e)
 
 -- what nothing standing outranks reaches its row
-reaches_if : (v : NodeValues) (c : Claim) → highest_rank slot_rank (standing v) ≤ claim_rank c → reaches v c ≡ true
+reaches_if : (v : NodeValues) (c : Claim) → standing_rank v ≤ suc (claim_rank c) → reaches v c ≡ true
 unfolding reaches first_highest
 reaches_if v c l =
-    let same : claim_rank c ≡ max (claim_rank c) (highest_rank slot_rank (standing v)) = omega arith in
+    let same : suc (claim_rank c) ≡ max (suc (claim_rank c)) (standing_rank v) = omega arith in
     tops _ _ (eq-eqb _ _ same)
 
-abbrev five : Bool → Bool → Bool → Bool → Bool → List Slot
-five a b c d e = slot_if a ForcedClaim ∷ slot_if b LocalFail ∷ slot_if c ManualClaim ∷ slot_if d WtrRunning ∷ slot_if e WtbRunning ∷ []
+claim_low : (b : Bool) (c : Claim) → option_rank claim_rank (then_some b c) ≤ suc (claim_rank c)
+claim_low true c = omega arith
+claim_low false c = omega arith
 
-slot_low : (b : Bool) (c : Claim) → slot_rank (slot_if b c) ≤ claim_rank c
-slot_low true c = omega arith
-slot_low false c = omega arith
+-- what stands ranks no higher than the highest of these that can
+ranks_low : (a b c d e : Bool) → highest_rank (option_rank claim_rank) (five a b c d e) ≤ 14
+ranks_low a b c d e =
+    omega (arith, claim_low a ForcedClaim, claim_low b LocalFail, claim_low c ManualClaim, claim_low d WtrRunning, claim_low e WtbRunning)
 
-all_low : (a b c d e : Bool) → highest_rank slot_rank (five a b c d e) ≤ 13
-all_low a b c d e =
-    omega (arith, slot_low a ForcedClaim, slot_low b LocalFail, slot_low c ManualClaim, slot_low d WtrRunning, slot_low e WtbRunning)
-
-no_force_low : (a b c d e : Bool) → a ≡ false → highest_rank slot_rank (five a b c d e) ≤ 11
+no_force_low : (a b c d e : Bool) → a ≡ false → highest_rank (option_rank claim_rank) (five a b c d e) ≤ 12
 no_force_low true b c d e z = absurd (both_ways true z refl)
-no_force_low false b c d e z = omega (arith, slot_low b LocalFail, slot_low c ManualClaim, slot_low d WtrRunning, slot_low e WtbRunning)
+no_force_low false b c d e z = omega (arith, claim_low b LocalFail, claim_low c ManualClaim, claim_low d WtrRunning, claim_low e WtbRunning)
 
-no_fail_low : (a b c d e : Bool) → a ≡ false → b ≡ false → highest_rank slot_rank (five a b c d e) ≤ 7
+no_fail_low : (a b c d e : Bool) → a ≡ false → b ≡ false → highest_rank (option_rank claim_rank) (five a b c d e) ≤ 8
 no_fail_low true b c d e z y = absurd (both_ways true z refl)
 no_fail_low false true c d e z y = absurd (both_ways true y refl)
-no_fail_low false false c d e z y = omega (arith, slot_low c ManualClaim, slot_low d WtrRunning, slot_low e WtbRunning)
+no_fail_low false false c d e z y = omega (arith, claim_low c ManualClaim, claim_low d WtrRunning, claim_low e WtbRunning)
 
-timers_low : (a b c d e : Bool) → a ≡ false → b ≡ false → c ≡ false → highest_rank slot_rank (five a b c d e) ≤ 5
+timers_low : (a b c d e : Bool) → a ≡ false → b ≡ false → c ≡ false → highest_rank (option_rank claim_rank) (five a b c d e) ≤ 6
 timers_low true b c d e z y x = absurd (both_ways true z refl)
 timers_low false true c d e z y x = absurd (both_ways true y refl)
 timers_low false false true d e z y x = absurd (both_ways true x refl)
-timers_low false false false d e z y x = omega (arith, slot_low d WtrRunning, slot_low e WtbRunning)
+timers_low false false false d e z y x = omega (arith, claim_low d WtrRunning, claim_low e WtbRunning)
 
-wtb_low : (a b c d e : Bool) → a ≡ false → b ≡ false → c ≡ false → d ≡ false → highest_rank slot_rank (five a b c d e) ≤ 3
+wtb_low : (a b c d e : Bool) → a ≡ false → b ≡ false → c ≡ false → d ≡ false → highest_rank (option_rank claim_rank) (five a b c d e) ≤ 4
 wtb_low true b c d e z y x w = absurd (both_ways true z refl)
 wtb_low false true c d e z y x w = absurd (both_ways true y refl)
 wtb_low false false true d e z y x w = absurd (both_ways true x refl)
 wtb_low false false false true e z y x w = absurd (both_ways true w refl)
-wtb_low false false false false e z y x w = omega (arith, slot_low e WtbRunning)
+wtb_low false false false false e z y x w = omega (arith, claim_low e WtbRunning)
 
 no_force : (v : NodeValues) → Forcing v → by_state v.state true true true false true ≡ true → some v.commands.forced ≡ false
 no_force v c e = grind arith
@@ -566,31 +570,22 @@ outside Pending n = refl
 none_counts : (v : NodeValues) → some v.failed ≡ false → fail_stands v ≡ false
 none_counts v f = grind arith
 
-le_ten : {n : ℕ} → n ≤ 5 → n ≤ 10
-le_ten l = omega arith
-
-le_six : {n : ℕ} → n ≤ 5 → n ≤ 6
-le_six l = omega arith
-
-le_four : {n : ℕ} → n ≤ 3 → n ≤ 4
-le_four l = omega arith
-
-le_fourteen : {n : ℕ} → n ≤ 13 → n ≤ 14
-le_fourteen l = omega arith
+up_to : (m n : ℕ) {k : ℕ} → m ≤ n → k ≤ m → k ≤ n
+up_to m n e l = omega arith
 
 pub local_reaches : LocalReaches
 local_reaches = record {
-  clear = λ v. reaches_if v Clear (le_fourteen (all_low _ _ _ _ _));
-  force = λ v. reaches_if v ForcedClaim (all_low _ _ _ _ _);
+  clear = λ v. reaches_if v Clear (up_to 14 15 (lit≤ tt) (ranks_low _ _ _ _ _));
+  force = λ v. reaches_if v ForcedClaim (ranks_low _ _ _ _ _);
   manual = λ v m t. let s = (parts v m).sound in
       reaches_if v ManualClaim (no_fail_low _ _ _ _ _ (no_force v s.forced (grind arith)) (no_fail v s.failed (grind arith)));
   fail = λ v m n. reaches_if v LocalFail (no_force_low _ _ _ _ _ (no_force v (parts v m).sound.forced (outside v.state n)));
   clear_fail = λ v m e f. let s = (parts v m).sound in
-      reaches_if v LocalClearFail (le_ten (timers_low _ _ _ _ _ (no_force v s.forced (rw e refl)) (none_counts v f) (no_manual v s.forced (rw e refl))));
+      reaches_if v LocalClearFail (up_to 6 11 (lit≤ tt) (timers_low _ _ _ _ _ (no_force v s.forced (rw e refl)) (none_counts v f) (no_manual v s.forced (rw e refl))));
   wtr = λ v m e. let s = (parts v m).sound in let p = wtr_waits v s.timers e in
-      reaches_if v WtrExpires (le_six (timers_low _ _ _ _ _ (no_force v s.forced (rw p refl)) (no_fail v s.failed (rw p refl)) (no_manual v s.forced (rw p refl))));
+      reaches_if v WtrExpires (up_to 6 7 (lit≤ tt) (timers_low _ _ _ _ _ (no_force v s.forced (rw p refl)) (no_fail v s.failed (rw p refl)) (no_manual v s.forced (rw p refl))));
   wtb = λ v m e. let s = (parts v m).sound in let p = wtb_waits v s.timers e in
-      reaches_if v WtbExpires (le_four (wtb_low _ _ _ _ _ (no_force v s.forced (rw p.0 refl)) (no_fail v s.failed (rw p.0 refl)) (no_manual v s.forced (rw p.0 refl)) p.1));
+      reaches_if v WtbExpires (up_to 4 5 (lit≤ tt) (wtb_low _ _ _ _ _ (no_force v s.forced (rw p.0 refl)) (no_fail v s.failed (rw p.0 refl)) (no_manual v s.forced (rw p.0 refl)) p.1));
 }
 
 -- ---- an idle node that hears a failure
@@ -608,12 +603,9 @@ pub idle_yields : IdleYields
 idle_yields v p i d b m s g o =
     let r = (parts v m).sound in
     let q : Heard = record { node = i; request = SignalFail; dnf = d; bpr = b } in
-    let up : reaches v (claim_of SignalFail) ≡ true = reaches_if v (claim_of SignalFail) (le_nine (no_fail_low _ _ _ _ _ (no_force v r.forced (rw s refl)) (no_fail v r.failed (rw s refl)))) in
+    let up : reaches v (claim_of SignalFail) ≡ true = reaches_if v (claim_of SignalFail) (up_to 8 10 (lit≤ tt) (no_fail_low _ _ _ _ _ (no_force v r.forced (rw s refl)) (no_fail v r.failed (rw s refl)))) in
     let row : reaches_row v q ≡ true = rw (o, up) in
     let yields : (row_of v q).values.blocked ≡ meet v.blocked v.failed = rw (row, s) in
     let free : ltb 0 v.timers.guard ≡ false = rw g in
     ap (λ (x : Bool). (cond x (still v) (flush_logic (settle v (row_of v q)) p q)).values.blocked) free
     ∙ logic_blocked (settle v (row_of v q)) p q ∙ yields ∙ ap (λ (f : Ports). meet v.blocked f) (none_failed v r.failed s) ∙ meet_none v.blocked
-  where
-    le_nine : {n : ℕ} → n ≤ 7 → n ≤ 9
-    le_nine l = omega arith

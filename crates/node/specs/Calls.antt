@@ -19,9 +19,9 @@ use Rattle.node.specs.declared.types.Port.{Port}
 use Rattle.node.specs.declared.types.Port.TheVariants.{Zero, One}
 use Rattle.node.specs.declared.types.Settings.{Settings as NodeSettings}
 use Rattle.node.specs.declared.types.Status.{Status}
-use Rattle.node.specs.Faults.{node_refusal, with_port}
+use Rattle.node.specs.Faults.{node_refusal, told_at, with_port}
 use Rattle.node.specs.Names.{by_state, is_owner}
-use Rattle.node.specs.Ports.{none, some, bpr_of}
+use Rattle.node.specs.Ports.{none, at, some, bpr_of}
 use Rattle.node.specs.Receiving.{after_message}
 use Rattle.node.specs.Rows.{still, force_row, manual_row, fail_row, repair_row, clear_row}
 use Rattle.node.specs.Rules.{settings_ok}
@@ -82,6 +82,9 @@ in_step own fabric =
     (cond (beq own.p1 fabric.p1) (Ok tt) (Err (OutOfStep One)))
     (Err (OutOfStep Zero))
 
+abbrev pub in_step_at : Ports → Ports → Port → Result (Unit {0}) NodeFault
+in_step_at own fabric p = cond (beq (at own p) (at fabric p)) (Ok tt) (Err (OutOfStep p))
+
 abbrev pub and_in_step : Result Port NodeFault → Result (Unit {0}) NodeFault → Result Port NodeFault
 and_in_step (Ok p) (Ok u) = Ok p
 and_in_step (Ok p) (Err e) = Err e
@@ -100,6 +103,26 @@ step_at v m p (Err e) next = turned_away v m (node_refusal (Some p) e)
 abbrev pub step_in : NodeValues → Marks → Result (Unit {0}) NodeFault → Step → Step
 step_in v m (Ok u) next = next
 step_in v m (Err e) next = turned_away v m (node_refusal None e)
+
+-- a call that can be refused by its own rule too, after 9, given the port that it names
+abbrev pub given_step : NodeValues → Marks → Option ℕ → Result (Unit {0}) NodeFault → Result Outcome NodeFault → Step
+given_step v m p (Ok u) (Ok o) = taken m o
+given_step v m p (Ok u) (Err e) = turned_away v m (node_refusal p e)
+given_step v m p (Err e) r = turned_away v m (node_refusal p e)
+
+-- what a call owes to its step: the node's values, and the fabric's marks; what the fabric keeps stays
+pub record Left {F : Type 0} (marked : F → Marks) (keeps : F → List (List ℕ)) (step : Step) (old new : F) (after : NodeValues) : Type 0 where
+  pub values : after ≡ step.values
+  pub marks : marked new ≡ step.marks
+  pub kept : keeps new ≡ keeps old
+
+-- and its answer, given the port that the call names; where it refuses, the fabric is the very same
+pub record Stepped {F : Type 0} (marked : F → Marks) (keeps : F → List (List ℕ)) (called : Option ℕ) (step : Step) (old new : F) (told : Result (Unit {0}) NodeFault) (after : NodeValues) : Type 0 where
+  pub answer : told_at called told ≡ step.answer
+  pub values : after ≡ step.values
+  pub marks : marked new ≡ step.marks
+  pub kept : keeps new ≡ keeps old
+  pub untouched : (e : NodeFault) → told ≡ Err e → new ≡ old
 
 -- ---- the calls
 

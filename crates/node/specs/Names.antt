@@ -1,5 +1,5 @@
 -- The cases of each closed list, with their numbers. Assumes nothing.
-use Rattle.std.specs.Prelude.{ℕ, Bool, true, false, Some, None, Option}
+use Rattle.std.specs.Prelude.{ℕ, Bool, true, false, is_some, Some, None, Option}
 use Rattle.frame.specs.declared.types.Request.{Request}
 use Rattle.frame.specs.declared.types.Request.TheVariants.{NoRequest, RplBlocked, ManualSwitch, SignalFail, ForcedSwitch}
 use Rattle.node.specs.declared.types.Role.{Role}
@@ -44,8 +44,7 @@ sent_number (Some SignalFail) = 4
 sent_number (Some ForcedSwitch) = 5
 
 abbrev pub is_sending : Option Request → Bool
-is_sending None = false
-is_sending (Some r) = true
+is_sending r = is_some r
 
 -- what each timer starts from, in ticks; the length of a burst, and the wait after it
 abbrev pub guard_start : ℕ

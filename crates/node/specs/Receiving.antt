@@ -85,6 +85,14 @@ pair_flushes v mine other q =
     && (not (same_pair (pair_of q) mine)
     && (not (same_pair (pair_of q) other) && (not q.dnf && not (is_own v q.node))))
 
+abbrev pub pair_at : NodeValues → Port → NodeId × Bool
+pair_at v Zero = v.pair0
+pair_at v One = v.pair1
+
+abbrev pub with_pair : NodeValues → Port → NodeId × Bool → NodeValues
+with_pair v Zero a = with_pairs v a v.pair1
+with_pair v One a = with_pairs v v.pair0 a
+
 abbrev pub flush_logic : Outcome → Port → Heard → Outcome
 flush_logic o Zero q =
     gives (with_pairs o.values (pair_after o.values.pair0 q) o.values.pair1)

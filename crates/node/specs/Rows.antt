@@ -7,12 +7,15 @@ use Rattle.frame.specs.declared.types.NodeId.{NodeId}
 use Rattle.frame.specs.declared.types.Request.{Request}
 use Rattle.frame.specs.declared.types.Request.TheVariants.{NoRequest, RplBlocked, ManualSwitch, SignalFail, ForcedSwitch}
 use Rattle.node.specs.declared.types.Commands.{Commands}
+use Rattle.node.specs.declared.types.Delay.{Delay}
+use Rattle.node.specs.declared.types.Delay.TheVariants.{Wtr, Wtb}
 use Rattle.node.specs.declared.types.NodeValues.{NodeValues}
 use Rattle.node.specs.declared.types.Outcome.{Outcome}
 use Rattle.node.specs.declared.types.Port.{Port}
 use Rattle.node.specs.declared.types.Role.{Role}
 use Rattle.node.specs.declared.types.Role.TheVariants.{Other, Owner, Neighbour}
 use Rattle.node.specs.declared.types.Sending.{Sending}
+use Rattle.node.specs.declared.types.Settings.{Settings}
 use Rattle.node.specs.declared.types.State.{State}
 use Rattle.node.specs.declared.types.State.TheVariants.{Idle, Protection, Pending}
 use Rattle.node.specs.declared.types.State.TheVariants.{ManualSwitch as Manual, ForcedSwitch as Forced}
@@ -40,14 +43,12 @@ abbrev pub stopped : Timers → Timers
 stopped t = record { guard = t.guard; wtr = 0; wtb = 0 }
 
 -- Await X: a revertive owner starts X
-abbrev pub reverts : NodeValues → Bool
-reverts v = is_owner v.settings.role && v.settings.revertive
+abbrev pub reverts : Settings → Bool
+reverts g = is_owner g.role && g.revertive
 
-abbrev pub await_wtr : NodeValues → ℕ → Timers
-await_wtr v guard = record { guard = guard; wtr = cond (reverts v) wtr_start 0; wtb = 0 }
-
-abbrev pub await_wtb : NodeValues → ℕ → Timers
-await_wtb v guard = record { guard = guard; wtr = 0; wtb = cond (reverts v) wtb_start 0 }
+abbrev pub awaits : Settings → Delay → ℕ → Timers
+awaits g Wtr guard = record { guard = guard; wtr = cond (reverts g) wtr_start 0; wtb = 0 }
+awaits g Wtb guard = record { guard = guard; wtr = 0; wtb = cond (reverts g) wtb_start 0 }
 
 -- the values with what a row can change: next state, blocked ports, commands, message, timers
 abbrev pub moved : NodeValues → State → Ports → Commands → Sending → Timers → NodeValues
@@ -93,11 +94,13 @@ still v = gives v false
 abbrev pub seize : NodeValues → Port → Request → State → Commands → Outcome
 seize v p x s c = gives (moved v s (only p) c (send x (at v.blocked p)) (stopped v.timers)) (not (at v.blocked p))
 
--- for local SF p is every failed port, blocked when all are, and only ports without failure are opened
+-- the same of several ports, blocked when all are
+abbrev pub seize_ports : NodeValues → Ports → Request → State → Commands → Outcome
+seize_ports v p x s c = gives (moved v s p c (send x (within p v.blocked)) (stopped v.timers)) (not (within p v.blocked))
+
+-- for local SF they are the failed ports, and only ports without failure are opened
 abbrev pub seize_failed : NodeValues → Outcome
-seize_failed v =
-    gives (moved v Protection v.failed no_commands (send SignalFail (within v.failed v.blocked)) (stopped v.timers))
-    (not (within v.failed v.blocked))
+seize_failed v = seize_ports v v.failed SignalFail Protection no_commands
 
 -- Rest: where the RPL port is blocked, send NR,RB with DNF; else block it, send NR,RB and flush. Open the other port; idle.
 abbrev pub rest : NodeValues → Outcome
@@ -107,7 +110,7 @@ rest v = seize v v.settings.rpl RplBlocked Idle no_commands
 -- R-APS(MS) leaves manual switch.
 abbrev pub release : NodeValues → NodeValues
 release v = cond (some v.blocked)
-    (moved v Pending v.blocked no_commands (send NoRequest false) (await_wtb v guard_start))
+    (moved v Pending v.blocked no_commands (send NoRequest false) (awaits v.settings Wtb guard_start))
     (moved v Pending v.blocked no_commands v.sending v.timers)
 
 -- Yield: open ports without failure, stop sending. WTR and WTB stop too, which only shows where pending is left: while one
@@ -118,6 +121,10 @@ yield_to v s = still (moved v s (meet v.blocked v.failed) no_commands silent (st
 -- go to pending; what is sent stays
 abbrev pub pend : NodeValues → Timers → NodeValues
 pend v t = moved v Pending v.blocked no_commands v.sending t
+
+-- the same, and the delay begins; guard runs on
+abbrev pub pend_for : NodeValues → Delay → NodeValues
+pend_for v d = pend v (awaits v.settings d v.timers.guard)
 
 -- local SF is presented where a port is failed
 abbrev pub present : NodeValues → Outcome
@@ -169,7 +176,7 @@ fail_row v p = cond (at v.failed p) (still v) (newly_failed (with_failed v (with
 
 -- local clear SF
 abbrev pub clear_fail : NodeValues → Outcome
-clear_fail v = still (moved v Pending v.blocked no_commands (send NoRequest false) (await_wtr v guard_start))
+clear_fail v = still (moved v Pending v.blocked no_commands (send NoRequest false) (awaits v.settings Wtr guard_start))
 
 -- a repair: the mark, then in protection local SF again while the other port is failed, else local clear SF
 abbrev pub repaired : NodeValues → Outcome
@@ -241,9 +248,9 @@ higher v n = nat_lt (id_number v.settings.id) (id_number n)
 abbrev pub heard_no_request : NodeValues → NodeId → Outcome
 heard_no_request v n = by_state v.state
     (cond (is_other v.settings.role && higher v n) (yield_to v Idle) (still v))  -- idle
-    (still (pend v (await_wtr v v.timers.guard)))  -- protection
-    (still (pend v (await_wtb v v.timers.guard)))  -- manual switch
-    (present (pend v (await_wtb v v.timers.guard)))  -- forced switch
+    (still (pend_for v Wtr))  -- protection
+    (still (pend_for v Wtb))  -- manual switch
+    (present (pend_for v Wtb))  -- forced switch
     (cond (higher v n) (yield_to v Pending) (still v))  -- pending
 
 abbrev pub heard_row : Request → NodeValues → NodeId → Outcome

@@ -5,6 +5,7 @@ use Rattle.fabric.specs.declared.types.Ports.{Ports}
 use Rattle.frame.specs.declared.types.NodeId.{NodeId}
 use Rattle.frame.specs.declared.types.Request.{Request}
 use Rattle.frame.specs.declared.types.Request.TheVariants.{NoRequest}
+use Rattle.node.specs.declared.types.Delay.TheVariants.{Wtr}
 use Rattle.node.specs.declared.types.Due.{Due}
 use Rattle.node.specs.declared.types.NodeValues.{NodeValues}
 use Rattle.node.specs.declared.types.Outcome.{Outcome}
@@ -15,9 +16,9 @@ use Rattle.node.specs.declared.types.Role.TheVariants.{Other, Owner, Neighbour}
 use Rattle.node.specs.declared.types.Settings.{Settings}
 use Rattle.node.specs.declared.types.State.TheVariants.{Pending}
 use Rattle.node.specs.declared.types.Timers.{Timers}
-use Rattle.node.specs.Names.{is_owner, is_sending, sent_number, burst_start, wait_start, wtr_start}
+use Rattle.node.specs.Names.{is_sending, sent_number, burst_start, wait_start}
 use Rattle.node.specs.Ports.{only, bpr_of}
-use Rattle.node.specs.Rows.{gives, still, no_commands, send, present, rest}
+use Rattle.node.specs.Rows.{awaits, gives, still, no_commands, send, present, rest}
 
 -- the message sent, with its DNF and BPR, is the same
 abbrev pub same_sent : NodeValues → NodeValues → Bool
@@ -111,9 +112,6 @@ start_port Other p = Zero
 start_port Owner p = p
 start_port Neighbour p = p
 
-abbrev pub start_timers : Settings → Timers
-start_timers g = record { guard = 0; wtr = cond (is_owner g.role && g.revertive) wtr_start 0; wtb = 0 }
-
 -- a node as Start leaves it, with these failures; all else is forgotten
 abbrev pub started : Settings → Ports → NodeValues
 started g f = record {
@@ -123,7 +121,7 @@ started g f = record {
   failed = f;
   commands = no_commands;
   sending = send NoRequest false;
-  timers = start_timers g;
+  timers = awaits g Wtr 0;
   due = fresh_due (Some NoRequest);
   pair0 = zero_pair;
   pair1 = zero_pair;

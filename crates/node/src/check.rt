@@ -1,170 +1,119 @@
 // Whether plain values make a node: each rule of specs/Rules.antt as a test.
 ghost use Rattle.std.specs.Prelude.{◌≡◌, true, false, MatchOption};
-ghost use Rattle.node.specs.Names.{by_state};
-ghost use Rattle.node.specs.Rules.{burst_ok, failed_ok, forced_ok, idle_ok, makes_node, message_ok, none_in_force, rpl_fits, sending_ok, settings_ok, timers_ok};
+ghost use Rattle.node.specs.Rules.{burst_ok, failed_ok, forced_ok, idle_ok, makes_node, message_ok, sending_ok, settings_ok, timers_ok};
 
 use crate::node::Node;
-use crate::ports::{at, same, some, within};
-use crate::receiving::idle_ports;
-use crate::rows::is_owner;
-use crate::settling::is_sending;
+use crate::ports::{NO_PORT, at, some, within};
+use crate::rows::NO_COMMANDS;
 use crate::starts::{BURST_START, GUARD_START, WAIT_START, WTB_START, WTR_START};
-use crate::types::{Commands, Due, NodeValues, Port, Role, Sending, Settings, State, Timers};
-use fabric::Ports;
+use crate::types::{NodeValues, Role, Settings, State};
 use frame::{Request, is_in_range};
 
-fn rpl_fits(role: Role, rpl: Port) -> bool
-    ensures { result ≡ rpl_fits role rpl }
-{
-    !matches!((role, rpl), (Role::Other, Port::One))
-}
-
 // Settings in range: what set-up asks of them.
+#[tactic(auto, unfolding(crate::specs::Rules::settings_ok))]
 pub fn settings_ok(settings: Settings) -> bool
     ensures { result ≡ settings_ok settings }
 {
-    is_in_range(settings.id, settings.channel, settings.mel)
-        && rpl_fits(settings.role, settings.rpl)
+    is_in_range(settings.id, settings.channel, settings.mel) && settings.rpl_fits()
 }
 
-fn failed_ok(state: State, blocked: Ports, failed: Ports) -> bool
-    ensures { result ≡ failed_ok state blocked failed }
-{
-    match state {
-        State::Protection => within(failed, blocked),
-        State::ForcedSwitch => true,
-        _ => !some(failed),
-    }
-}
-
-fn none_in_force(commands: Commands) -> bool
-    ensures { result ≡ none_in_force commands }
-{
-    !some(commands.forced) & commands.manual.is_none()
-}
-
-fn forced_ok(state: State, blocked: Ports, commands: Commands) -> bool
-    ensures { result ≡ forced_ok state blocked commands }
-{
-    match state {
-        State::ManualSwitch => {
-            !some(commands.forced)
-                & match commands.manual {
-                    Some(port) => at(blocked, port),
-                    None => true,
-                }
+impl NodeValues {
+    fn failed_ok(self) -> bool
+        ensures { result ≡ failed_ok self.state self.blocked self.failed }
+    {
+        match self.state {
+            State::Protection => within(self.failed, self.blocked),
+            State::ForcedSwitch => true,
+            _ => self.failed == NO_PORT,
         }
-        State::ForcedSwitch => within(commands.forced, blocked) & commands.manual.is_none(),
-        _ => none_in_force(commands),
     }
-}
 
-fn is_idle(state: State) -> bool
-    ensures { result ≡ by_state state true false false false false }
-{
-    matches!(state, State::Idle)
-}
-
-fn is_pending(state: State) -> bool
-    ensures { result ≡ by_state state false false false false true }
-{
-    matches!(state, State::Pending)
-}
-
-fn message_ok(
-    request: Option<Request>,
-    role: Role,
-    state: State,
-    failed: Ports,
-    commands: Commands,
-    dnf: bool,
-    mismatch: bool,
-) -> bool
-    ensures { result ≡ message_ok request role state failed commands dnf mismatch }
-{
-    match request {
-        None => !dnf,
-        Some(Request::NoRequest) => !dnf & (is_pending(state) | (is_owner(role) & mismatch)),
-        Some(Request::RplBlocked) => is_owner(role) & is_idle(state),
-        Some(Request::SignalFail) => match state {
-            State::Protection => some(failed),
-            _ => false,
-        },
-        Some(Request::ManualSwitch) => commands.manual.is_some(),
-        Some(Request::ForcedSwitch) => some(commands.forced),
+    fn forced_ok(self) -> bool
+        ensures { result ≡ forced_ok self.state self.blocked self.commands }
+    {
+        let commands = self.commands;
+        match self.state {
+            State::ManualSwitch => {
+                commands.forced == NO_PORT
+                    && match commands.manual {
+                        Some(port) => at(self.blocked, port),
+                        None => true,
+                    }
+            }
+            State::ForcedSwitch => {
+                within(commands.forced, self.blocked) && commands.manual.is_none()
+            }
+            _ => commands == NO_COMMANDS,
+        }
     }
-}
 
-fn sending_ok(values: NodeValues) -> bool
-    ensures { result ≡ sending_ok values.settings.role values.state values.blocked values.failed values.commands values.sending values.mismatch }
-{
-    let sending = values.sending;
-    let may = message_ok(
-        sending.request,
-        values.settings.role,
-        values.state,
-        values.failed,
-        values.commands,
-        sending.dnf,
-        values.mismatch,
-    );
-    may & (values.mismatch | (!is_sending(sending.request) | some(values.blocked)))
-}
-
-fn burst_ok(sending: Sending, due: Due) -> bool
-    ensures { result ≡ burst_ok sending due }
-{
-    if is_sending(sending.request) {
-        (due.burst <= BURST_START)
-            & ((due.wait <= WAIT_START) & ((due.burst == 0) | (due.wait == 0)))
-    } else {
-        (due.burst == 0) & (due.wait == 0)
+    fn message_ok(self) -> bool
+        ensures { result ≡ message_ok self.sending.request self.settings.role self.state self.failed self.commands self.sending.dnf self.mismatch }
+    {
+        let owns = self.settings.role == Role::Owner;
+        let dnf = self.sending.dnf;
+        match self.sending.request {
+            None => !dnf,
+            Some(Request::NoRequest) => {
+                !dnf && (self.state == State::Pending || (owns && self.mismatch))
+            }
+            Some(Request::RplBlocked) => owns && self.state == State::Idle,
+            Some(Request::SignalFail) => self.state == State::Protection && some(self.failed),
+            Some(Request::ManualSwitch) => self.commands.manual.is_some(),
+            Some(Request::ForcedSwitch) => some(self.commands.forced),
+        }
     }
-}
 
-fn timers_ok(role: Role, revertive: bool, state: State, timers: Timers) -> bool
-    ensures { result ≡ timers_ok role revertive state timers }
-{
-    let bounded = (timers.guard <= GUARD_START)
-        & ((timers.wtr <= WTR_START) & (timers.wtb <= WTB_START));
-    let waits = if is_owner(role) & (revertive & is_pending(state)) {
-        (timers.wtr == 0) | (timers.wtb == 0)
-    } else {
-        (timers.wtr == 0) & (timers.wtb == 0)
-    };
-    bounded & waits
-}
-
-fn idle_ok(role: Role, rpl: Port, state: State, blocked: Ports, mismatch: bool) -> bool
-    ensures { result ≡ idle_ok role rpl state blocked mismatch }
-{
-    match state {
-        State::Idle => mismatch | same(blocked, idle_ports(role, rpl)),
-        _ => true,
+    fn sending_ok(self) -> bool
+        ensures { result ≡ sending_ok self.settings.role self.state self.blocked self.failed self.commands self.sending self.mismatch }
+    {
+        self.message_ok() && (self.mismatch || self.sending.request.is_none() || some(self.blocked))
     }
-}
 
-fn makes_node(values: NodeValues) -> bool
-    ensures { result ≡ makes_node values }
-{
-    let settings = values.settings;
-    settings_ok(settings)
-        & (failed_ok(values.state, values.blocked, values.failed)
-            & (forced_ok(values.state, values.blocked, values.commands)
-                & (sending_ok(values)
-                    & (burst_ok(values.sending, values.due)
-                        & (timers_ok(
-                            settings.role,
-                            settings.revertive,
-                            values.state,
-                            values.timers,
-                        ) & idle_ok(
-                            settings.role,
-                            settings.rpl,
-                            values.state,
-                            values.blocked,
-                            values.mismatch,
-                        ))))))
+    fn burst_ok(self) -> bool
+        ensures { result ≡ burst_ok self.sending self.due }
+    {
+        let burst = self.due.burst;
+        let wait = self.due.wait;
+        if self.sending.request.is_some() {
+            burst <= BURST_START && wait <= WAIT_START && (burst == 0 || wait == 0)
+        } else {
+            burst == 0 && wait == 0
+        }
+    }
+
+    fn timers_ok(self) -> bool
+        ensures { result ≡ timers_ok self.settings.role self.settings.revertive self.state self.timers }
+    {
+        let timers = self.timers;
+        let bounded = timers.guard <= GUARD_START
+            && timers.wtr <= WTR_START
+            && timers.wtb <= WTB_START;
+        let waits = if self.settings.reverts() && self.state == State::Pending {
+            timers.wtr == 0 || timers.wtb == 0
+        } else {
+            timers.wtr == 0 && timers.wtb == 0
+        };
+        bounded && waits
+    }
+
+    fn idle_ok(self) -> bool
+        ensures { result ≡ idle_ok self.settings.role self.settings.rpl self.state self.blocked self.mismatch }
+    {
+        self.mismatch || self.state != State::Idle || self.blocked == self.settings.idle_ports()
+    }
+
+    fn makes_node(self) -> bool
+        ensures { result ≡ makes_node self }
+    {
+        settings_ok(self.settings)
+            && self.failed_ok()
+            && self.forced_ok()
+            && self.sending_ok()
+            && self.burst_ok()
+            && self.timers_ok()
+            && self.idle_ok()
+    }
 }
 
 impl Node {
@@ -172,7 +121,7 @@ impl Node {
     pub fn from_values(values: NodeValues) -> Option<Node>
         ensures { MatchOption result (makes_node values ≡ false) (λ n. (n.values ≡ values) × (makes_node values ≡ true)) }
     {
-        if makes_node(values) {
+        if values.makes_node() {
             Some(Node { values })
         } else {
             None

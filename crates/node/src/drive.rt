@@ -1,8 +1,10 @@
 // Where a fabric is asked and driven: the one place for each.
 ghost use Rattle.std.specs.Prelude.{◌≡◌};
-ghost use Rattle.node.specs.Calls.{admitted, driven, in_step, port_of};
+ghost use Rattle.fabric.specs.Marks.{with_blocked};
+ghost use Rattle.node.specs.Calls.{driven, in_step, in_step_at};
 
 use crate::faults::NodeFault;
+use crate::ports::at;
 use crate::types::{NodeValues, Port};
 use fabric::{Fabric, Ports};
 
@@ -15,58 +17,44 @@ fn read_blocked<F: Fabric>(fabric: &F) -> Ports
     }
 }
 
-fn port_of(number: u8) -> Result<Port, NodeFault>
-    ensures { result ≡ port_of number }
+fn in_step_at(own: Ports, fabric: Ports, port: Port) -> Result<(), NodeFault>
+    ensures { result ≡ in_step_at own fabric port }
 {
-    match number {
-        0 => Ok(Port::Zero),
-        1 => Ok(Port::One),
-        _ => Err(NodeFault::NoSuchPort { port: number }),
+    if at(own, port) == at(fabric, port) {
+        Ok(())
+    } else {
+        Err(NodeFault::OutOfStep { port })
     }
 }
 
-fn in_step(own: Ports, fabric: Ports) -> Result<(), NodeFault>
-    ensures { result ≡ in_step own fabric }
-{
-    if own.p0 != fabric.p0 {
-        return Err(NodeFault::OutOfStep { port: Port::Zero });
+impl NodeValues {
+    // 9: the fabric's blocked marks are the node's.
+    pub(crate) fn in_step<F: Fabric>(self, fabric: &F) -> Result<(), NodeFault>
+        ensures { result ≡ in_step self.blocked (F.marks fabric.now).blocked }
+    {
+        let blocked = read_blocked(fabric);
+        in_step_at(self.blocked, blocked, Port::Zero)?;
+        in_step_at(self.blocked, blocked, Port::One)
     }
-    if own.p1 != fabric.p1 {
-        return Err(NodeFault::OutOfStep { port: Port::One });
-    }
-    Ok(())
 }
 
-// 9: the fabric's blocked marks are the node's.
-pub(crate) fn check_in_step<F: Fabric>(values: &NodeValues, fabric: &F) -> Result<(), NodeFault>
-    ensures { result ≡ in_step values.now.blocked (F.marks fabric.now).blocked }
+fn drive_port<F: Fabric>(fabric: &mut F, port: u8, blocked: bool)
+    ensures marks { F.marks fabric.new ≡ with_blocked (F.marks fabric.old) port blocked }
+    ensures kept { F.kept fabric.new ≡ F.kept fabric.old }
 {
-    in_step(values.blocked, read_blocked(fabric))
-}
-
-// 8, then 9.
-pub(crate) fn admit<F: Fabric>(values: &NodeValues, fabric: &F, port: u8) -> Result<Port, NodeFault>
-    ensures { result ≡ admitted values.now (F.marks fabric.now) port }
-{
-    let port = port_of(port)?;
-    check_in_step(values, fabric)?;
-    Ok(port)
+    let _ = if blocked {
+        fabric.block(port)
+    } else {
+        fabric.open(port)
+    };
 }
 
 pub(crate) fn drive<F: Fabric>(fabric: &mut F, blocked: Ports, flush: bool)
     ensures marks { F.marks fabric.new ≡ driven (F.marks fabric.old) blocked flush }
     ensures kept { F.kept fabric.new ≡ F.kept fabric.old }
 {
-    let _ = if blocked.p0 {
-        fabric.block(0)
-    } else {
-        fabric.open(0)
-    };
-    let _ = if blocked.p1 {
-        fabric.block(1)
-    } else {
-        fabric.open(1)
-    };
+    drive_port(fabric, 0, blocked.p0);
+    drive_port(fabric, 1, blocked.p1);
     if flush {
         fabric.flush();
     }

@@ -6,7 +6,7 @@ use crate::types::Port;
 use frame::FrameFault;
 
 // A refusal of the frame library is held whole.
-#[derive(Clone, Copy)]
+#[derive(Clone, Copy, PartialEq, Eq, Debug)]
 pub enum NodeFault {
     Frame(FrameFault),
     NoSuchPort { port: u8 },

@@ -13,6 +13,7 @@ mod ports;
 mod receiving;
 mod rows;
 mod sending;
+mod settings;
 mod settling;
 mod starts;
 mod types;

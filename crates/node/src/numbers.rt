@@ -1,5 +1,6 @@
 // The closed lists as numbers, and what a refusal tells: number, port, octet.
 ghost use Rattle.std.specs.Prelude.{◌≡◌, ℕ, Option};
+ghost use Rattle.node.specs.Calls.{port_of};
 ghost use Rattle.node.specs.Faults.{node_refusal};
 ghost use Rattle.node.specs.Names.{role_number, state_number};
 ghost use Rattle.node.specs.Ports.{port_number};
@@ -7,23 +8,37 @@ ghost use Rattle.node.specs.Ports.{port_number};
 use crate::faults::NodeFault;
 use crate::types::{Port, Role, State};
 
-impl Port {
-    pub fn number(self) -> u8
-        ensures { result ≡ port_number self }
-    {
-        match self {
+impl TryFrom<u8> for Port {
+    type Error = NodeFault;
+
+    ghost try_from_gives = { λ n r. r ≡ port_of n };
+
+    fn try_from(number: u8) -> Result<Port, NodeFault> {
+        match number {
+            0 => Ok(Port::Zero),
+            1 => Ok(Port::One),
+            _ => Err(NodeFault::NoSuchPort { port: number }),
+        }
+    }
+}
+
+impl From<Port> for u8 {
+    ghost from_gives = { λ p r. r ≡ port_number p };
+
+    fn from(port: Port) -> u8 {
+        match port {
             Port::Zero => 0,
             Port::One => 1,
         }
     }
 }
 
-impl State {
+impl From<State> for u8 {
+    ghost from_gives = { λ s r. r ≡ state_number s };
+
     // A to E, from 0.
-    pub fn number(self) -> u8
-        ensures { result ≡ state_number self }
-    {
-        match self {
+    fn from(state: State) -> u8 {
+        match state {
             State::Idle => 0,
             State::Protection => 1,
             State::ManualSwitch => 2,
@@ -33,11 +48,11 @@ impl State {
     }
 }
 
-impl Role {
-    pub fn number(self) -> u8
-        ensures { result ≡ role_number self }
-    {
-        match self {
+impl From<Role> for u8 {
+    ghost from_gives = { λ x r. r ≡ role_number x };
+
+    fn from(role: Role) -> u8 {
+        match role {
             Role::Other => 0,
             Role::Owner => 1,
             Role::Neighbour => 2,
@@ -45,6 +60,7 @@ impl Role {
     }
 }
 
+// A refusal has three numbers, and the number alone loses the other two: so none is a conversion.
 impl NodeFault {
     pub fn number(self) -> u8
         ensures { (p : Option ℕ) → result ≡ (node_refusal p self).number }
@@ -67,7 +83,7 @@ impl NodeFault {
         match self {
             NodeFault::Frame(_) => called,
             NodeFault::NoSuchPort { port } | NodeFault::NotNow { port } => Some(port),
-            NodeFault::OutOfStep { port } => Some(port.number()),
+            NodeFault::OutOfStep { port } => Some(u8::from(port)),
             NodeFault::NothingToClear | NodeFault::NoFrameDue | NodeFault::Settings => None,
         }
     }

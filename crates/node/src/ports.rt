@@ -1,6 +1,6 @@
 // Marks for two ports.
 ghost use Rattle.std.specs.Prelude.{◌≡◌};
-ghost use Rattle.node.specs.Ports.{at, bpr_of, meet, none, only, same, some, with_mark, within};
+ghost use Rattle.node.specs.Ports.{at, bpr_of, meet, none, only, some, with_mark, within};
 
 use crate::types::Port;
 use fabric::Ports;
@@ -53,12 +53,6 @@ pub(crate) fn meet(marks: Ports, others: Ports) -> Ports
         p0: marks.p0 & others.p0,
         p1: marks.p1 & others.p1,
     }
-}
-
-pub(crate) fn same(marks: Ports, others: Ports) -> bool
-    ensures { result ≡ same marks others }
-{
-    (marks.p0 == others.p0) & (marks.p1 == others.p1)
 }
 
 pub(crate) fn bpr_of(blocked: Ports) -> bool

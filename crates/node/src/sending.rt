@@ -1,40 +1,39 @@
 // The frame request.
-ghost use Rattle.std.specs.Prelude.{◌≡◌, cond, None};
+ghost use Rattle.std.specs.Prelude.{◌≡◌, None};
 ghost use Rattle.node.specs.Calls.{due_message, frame_answer, frame_buffer, frame_values, message_sent};
 ghost use Rattle.node.specs.Faults.{told_at};
 
 use crate::faults::NodeFault;
 use crate::node::Node;
 use crate::ports::bpr_of;
-use crate::settling::{frame_taken, is_due};
-use crate::types::NodeValues;
-use frame::{Body, FrameFault, Message, write_frame};
+use crate::types::{NodeValues, Settings};
+use frame::{Body, FRAME_LENGTH, FrameFault, Message, write_frame};
 
-const FRAME_LENGTH: usize = 55;
+impl NodeValues {
+    // The message that a node sends: BPR follows from its ports.
+    fn message_sent(self) -> Option<Message>
+        ensures { result ≡ message_sent self }
+    {
+        let request = self.sending.request?;
+        let body = Body::Signal {
+            request,
+            dnf: self.sending.dnf,
+            bpr: bpr_of(self.blocked),
+        };
+        Some(Message {
+            node: self.settings.id,
+            body,
+        })
+    }
 
-// The message that a node sends: BPR follows from its ports.
-fn message_sent(values: NodeValues) -> Option<Message>
-    ensures { result ≡ message_sent values }
-{
-    let request = values.sending.request?;
-    let body = Body::Signal {
-        request,
-        dnf: values.sending.dnf,
-        bpr: bpr_of(values.blocked),
-    };
-    Some(Message {
-        node: values.settings.id,
-        body,
-    })
-}
-
-fn due_message(values: NodeValues) -> Option<Message>
-    ensures { result ≡ due_message values }
-{
-    if is_due(values) {
-        message_sent(values)
-    } else {
-        None
+    fn due_message(self) -> Option<Message>
+        ensures { result ≡ due_message self }
+    {
+        if self.is_due() {
+            self.message_sent()
+        } else {
+            None
+        }
     }
 }
 
@@ -48,16 +47,12 @@ impl Node {
         if buffer.len() < FRAME_LENGTH {
             return Err(NodeFault::Frame(FrameFault::Buffer));
         }
-        let Some(message) = due_message(self.values) else {
+        let Some(message) = self.values.due_message() else {
             return Err(NodeFault::NoFrameDue);
         };
-        write_frame(
-            message,
-            self.values.settings.channel,
-            self.values.settings.mel,
-            buffer,
-        )?;
-        self.write(frame_taken(self.values));
+        let Settings { channel, mel, .. } = self.values.settings;
+        write_frame(message, channel, mel, buffer)?;
+        self.write(self.values.frame_taken());
         Ok(())
     }
 }

@@ -3,21 +3,21 @@ use fabric::Ports;
 use frame::{Channel, NodeId, Request};
 
 // The owner blocks the ring protection link (RPL) at its end, the neighbour at the other end.
-#[derive(Clone, Copy)]
+#[derive(Clone, Copy, PartialEq, Eq, Debug)]
 pub enum Role {
     Other,
     Owner,
     Neighbour,
 }
 
-#[derive(Clone, Copy)]
+#[derive(Clone, Copy, PartialEq, Eq, Debug)]
 pub enum Port {
     Zero,
     One,
 }
 
 // The states A to E of Table 10-2 of ITU-T G.8032.
-#[derive(Clone, Copy)]
+#[derive(Clone, Copy, PartialEq, Eq, Debug)]
 pub enum State {
     Idle,
     Protection,
@@ -26,7 +26,7 @@ pub enum State {
     Pending,
 }
 
-#[derive(Clone, Copy)]
+#[derive(Clone, Copy, PartialEq, Eq, Debug)]
 pub struct Settings {
     pub id: NodeId,
     pub channel: Channel,
@@ -37,21 +37,21 @@ pub struct Settings {
 }
 
 // The commands in force: forced switch (FS) at each port, and the port under manual switch (MS).
-#[derive(Clone, Copy)]
+#[derive(Clone, Copy, PartialEq, Eq, Debug)]
 pub struct Commands {
     pub forced: Ports,
     pub manual: Option<Port>,
 }
 
 // The message that the node sends, but for its BPR, which follows from the ports.
-#[derive(Clone, Copy)]
+#[derive(Clone, Copy, PartialEq, Eq, Debug)]
 pub struct Sending {
     pub request: Option<Request>,
     pub dnf: bool,
 }
 
 // Ticks left of guard, wait to restore (WTR) and wait to block (WTB); 0 where a timer does not run.
-#[derive(Clone, Copy)]
+#[derive(Clone, Copy, PartialEq, Eq, Debug)]
 pub struct Timers {
     pub guard: u16,
     pub wtr: u16,
@@ -59,14 +59,21 @@ pub struct Timers {
 }
 
 // Frames of the burst that are left, and ticks to the next frame after it.
-#[derive(Clone, Copy)]
+#[derive(Clone, Copy, PartialEq, Eq, Debug)]
 pub struct Due {
     pub burst: u8,
     pub wait: u16,
 }
 
+// What a revertive owner waits for in pending: WTR to restore, WTB to block.
+#[derive(Clone, Copy, PartialEq, Eq, Debug)]
+pub enum Delay {
+    Wtr,
+    Wtb,
+}
+
 // All that a node holds, as plain values: no rule is promised of them.
-#[derive(Clone, Copy)]
+#[derive(Clone, Copy, PartialEq, Eq, Debug)]
 pub struct NodeValues {
     pub settings: Settings,
     pub state: State,
@@ -82,14 +89,14 @@ pub struct NodeValues {
 }
 
 // What a row gives: the values after it, and whether it flushes.
-#[derive(Clone, Copy)]
+#[derive(Clone, Copy, PartialEq, Eq, Debug)]
 pub struct Outcome {
     pub values: NodeValues,
     pub flush: bool,
 }
 
 // A signal that was received.
-#[derive(Clone, Copy)]
+#[derive(Clone, Copy, PartialEq, Eq, Debug)]
 pub struct Heard {
     pub node: NodeId,
     pub request: Request,
@@ -98,7 +105,7 @@ pub struct Heard {
 }
 
 // What the status question answers.
-#[derive(Clone, Copy)]
+#[derive(Clone, Copy, PartialEq, Eq, Debug)]
 pub struct Status {
     pub state: State,
     pub role: Role,

@@ -1,10 +1,15 @@
-use Rattle.node.specs.Rows.{force_row}
-use Rattle.node.proofs.Keeps.{force_keeps}
-use Rattle.node.proofs.Lawful.{owed, of_node}
+use Rattle.std.proofs.Common.{Some, ap, ◌∙◌, rules}
+use Rattle.node.specs.Calls.{forced, outcome, taken}
+use Rattle.node.specs.Settling.{settle}
+use Rattle.node.proofs.Meaning.{taken_keeps}
+use Rattle.node.proofs.Steps.{at_port}
 use Rattle.node.proofs.node.Node.force.Goals as goal
 
-pub commit-requires : goal.commit-requires
-commit-requires g c =
-    let n = c.args.self.now in
-    let p = c.in_ok-at.at in
-    rw (c.settle-o.ensures, c.force_row.ensures) (owed n.values (force_row n.values p).values n.burst (force_keeps n.values p (of_node n)))
+pub take-requires : goal.take-requires
+take-requires g c = taken_keeps (forced c.in_ok-at.at) c.args.self.now _ tt (c.settle-o.ensures ∙ ap (settle c.args.self.now.values) c.force_row.ensures)
+
+pub returns : goal.returns
+returns g c =
+    let v = c.args.self.now.values in
+    let m = g.F.Fabric.marks c.args.fabric.now in
+    at_port v m _ c.args.port c.in_ok-at.at (λ q. taken m (outcome (forced q) v)) (search rules) (λ u. ap (taken m) (c.settle-o.ensures ∙ ap (settle c.args.self.now.values) c.force_row.ensures)) (c.take.ensures (Some c.args.port))

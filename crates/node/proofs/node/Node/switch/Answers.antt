@@ -1,12 +1,23 @@
-use Rattle.std.proofs.Common.{sym, ◌∙◌}
-use Rattle.node.specs.Rows.{manual_row}
-use Rattle.node.proofs.Keeps.{manual_keeps}
-use Rattle.node.proofs.Lawful.{owed, of_node}
+use Rattle.std.proofs.Common.{cond, Ok, Some, refl, ap, ◌∙◌, rules, ◌≡◌, true}
+use Rattle.node.specs.declared.faults.NodeFault.TheVariants.{NotNow}
+use Rattle.node.specs.declared.types.Outcome.{Outcome}
+use Rattle.node.specs.Calls.{switched, outcome, taken, takes_manual, turned_away, given_step}
+use Rattle.node.specs.Faults.{node_refusal}
+use Rattle.node.specs.Rules.{makes_node}
+use Rattle.node.proofs.Meaning.{taken_keeps}
+use Rattle.node.proofs.Steps.{at_port, by_rule, if_taken}
 use Rattle.node.proofs.node.Node.switch.Goals as goal
 
-pub commit-requires : goal.commit-requires
-commit-requires g c =
-    let n = c.args.self.now in
-    let p = c.in_ok-at.at in
-    rw (c.settle-o.ensures, c.manual_row.ensures)
-    (owed n.values (manual_row n.values p).values n.burst (manual_keeps n.values p (sym c.takes_manual.ensures ∙ c.if-not-takes_manual.false) (of_node n)))
+pub take-requires : goal.take-requires
+take-requires g c =
+    rw c.switched.ensures
+    (if_taken (λ (o : Outcome). makes_node o.values ≡ true) (takes_manual c.args.self.now.values) _ _
+    (λ t. taken_keeps (switched c.in_ok-at.at) c.args.self.now _ t refl))
+
+pub returns : goal.returns
+returns g c =
+    let v = c.args.self.now.values in
+    let m = g.F.Fabric.marks c.args.fabric.now in
+    let p = c.args.port in
+    at_port v m _ p c.in_ok-at.at (λ q. cond (takes_manual v) (taken m (outcome (switched q) v)) (turned_away v m (node_refusal (Some p) (NotNow p)))) (search rules)
+    (λ u. ap (given_step v m (Some p) (Ok u)) c.switched.ensures ∙ by_rule v m (Some p) (takes_manual v) _ _ u) (c.take.ensures (Some p))

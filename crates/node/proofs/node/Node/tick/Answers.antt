@@ -1,11 +1,16 @@
-use Rattle.node.specs.Settling.{tick_row, lowered}
-use Rattle.node.proofs.Keeps.{tick_keeps}
-use Rattle.node.proofs.Lawful.{owed, of_node}
-use Rattle.node.proofs.Frames.{lowered_burst}
+use Rattle.std.proofs.Common.{◌≡◌, None, ap}
+use Rattle.node.specs.Calls.{ticked, outcome, taken}
+use Rattle.node.proofs.Meaning.{taken_keeps}
+use Rattle.node.proofs.Steps.{no_port}
 use Rattle.node.proofs.node.Node.tick.Goals as goal
 
-pub commit-requires : goal.commit-requires
-commit-requires g c =
-    let n = c.args.self.now in
-    rw (c.settle-o.ensures, c.lowered.ensures, c.tick_row.ensures)
-    (owed (lowered n.values) (tick_row n.values).values (lowered_burst n.values n.burst) (tick_keeps n.values (of_node n)))
+pub take-requires : goal.take-requires
+take-requires g c =
+    let e : c.settle-o.result ≡ outcome ticked c.args.self.now.values = cc in taken_keeps ticked c.args.self.now _ tt e
+
+pub returns : goal.returns
+returns g c =
+    let v = c.args.self.now.values in
+    let m = g.F.Fabric.marks c.args.fabric.now in
+    let e : c.settle-o.result ≡ outcome ticked v = cc in
+    no_port v m _ (taken m (outcome ticked v)) (λ u. ap (taken m) e) (c.take.ensures None)
