@@ -136,6 +136,7 @@ pub(crate) fn id(last: u8) -> NodeId {
     }
 }
 
+// A function: neither type is of this crate, so no conversion can be declared for it here.
 pub(crate) fn letter(state: State) -> char {
     match state {
         State::Idle => 'A',
@@ -146,20 +147,25 @@ pub(crate) fn letter(state: State) -> char {
     }
 }
 
-pub(crate) fn ports(marks: Ports) -> Marked {
-    match (marks.p0, marks.p1) {
-        (false, false) => Marked::NoPort,
-        (true, false) => Marked::Port0,
-        (false, true) => Marked::Port1,
-        (true, true) => Marked::Both,
+impl From<Ports> for Marked {
+    fn from(marks: Ports) -> Marked {
+        match (marks.p0, marks.p1) {
+            (false, false) => Marked::NoPort,
+            (true, false) => Marked::Port0,
+            (false, true) => Marked::Port1,
+            (true, true) => Marked::Both,
+        }
     }
 }
 
-pub(crate) fn port_under(manual: Option<Port>) -> Marked {
-    match manual {
-        None => Marked::NoPort,
-        Some(Port::Zero) => Marked::Port0,
-        Some(Port::One) => Marked::Port1,
+// The port under MS.
+impl From<Option<Port>> for Marked {
+    fn from(manual: Option<Port>) -> Marked {
+        match manual {
+            None => Marked::NoPort,
+            Some(Port::Zero) => Marked::Port0,
+            Some(Port::One) => Marked::Port1,
+        }
     }
 }
 
@@ -181,7 +187,7 @@ pub(crate) fn message(sent: Option<Request>, dnf: bool) -> Sends {
 
 // The fabric's answer on a mark.
 pub(crate) fn holds(answer: Result<bool, FabricFault>) -> bool {
-    matches!(answer, Ok(true))
+    answer == Ok(true)
 }
 
 #[derive(Clone, Copy)]
@@ -194,10 +200,8 @@ impl Station {
     // A refusal is told by its number.
     pub(crate) fn new(at: At) -> Result<Station, u8> {
         let mut fabric = RegisterFabric { word: 0x0234_5678 };
-        match Node::set_up(settings(at), &mut fabric) {
-            Ok(node) => Ok(Station { node, fabric }),
-            Err(fault) => Err(fault.number()),
-        }
+        let node = Node::set_up(settings(at), &mut fabric).map_err(|fault| fault.number())?;
+        Ok(Station { node, fabric })
     }
 
     fn hear(&mut self, port: u8, last: u8, body: Body) -> Result<(), NodeFault> {
@@ -247,10 +251,7 @@ impl Station {
     // Makes the call with addresses learned at both ports. A refusal is told by its number.
     pub(crate) fn call(&mut self, call: Call) -> Result<(), u8> {
         self.fabric.word = self.fabric.word | 0x3000_0000;
-        match self.make(call) {
-            Ok(()) => Ok(()),
-            Err(fault) => Err(fault.number()),
-        }
+        self.make(call).map_err(|fault| fault.number())
     }
 
     pub(crate) fn follow(&mut self, path: &[Call]) -> Result<(), u8> {
@@ -272,7 +273,7 @@ impl Station {
         let timers = status.timers;
         Seen(
             letter(status.state),
-            ports(status.blocked),
+            Marked::from(status.blocked),
             message(status.sent, status.dnf),
             [timers.guard, timers.wtr, timers.wtb],
             self.fabric.word & 0x3000_0000 == 0,
@@ -306,20 +307,17 @@ impl Station {
 }
 
 pub(crate) fn run(rt: &impl Abort, examples: &[Example]) -> Result<(), Fail> {
-    let mut number: u32 = 1;
-    for example in examples {
+    for (number, example) in (1..).zip(examples) {
         let mut station = Station::brought(example.at, example.path)?;
         station.call(example.call)?;
         assert_eq!(rt; station.seen(), example.seen, "example {number}");
         station.drives_well(rt, number);
-        number = number.saturating_add(1);
     }
     Ok(())
 }
 
 pub(crate) fn run_refused(rt: &impl Abort, refusals: &[Refusal]) -> Result<(), Fail> {
-    let mut number: u32 = 1;
-    for refusal in refusals {
+    for (number, refusal) in (1..).zip(refusals) {
         let mut station = Station::brought(refusal.at, refusal.path)?;
         station.fabric.word = station.fabric.word | 0x3000_0000;
         let before = station;
@@ -330,7 +328,6 @@ pub(crate) fn run_refused(rt: &impl Abort, refusals: &[Refusal]) -> Result<(), F
         );
         assert_eq!(rt; station.seen(), before.seen(), "refusal {number}");
         assert_eq!(rt; station.fabric.word, before.fabric.word, "refusal {number}");
-        number = number.saturating_add(1);
     }
     Ok(())
 }

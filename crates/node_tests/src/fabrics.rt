@@ -28,7 +28,7 @@ fn table_of_addresses(rt: HostRuntime) -> Result<(), Fail> {
     assert!(rt; !holds(table.is_blocked(0)) && holds(table.is_blocked(1)));
     assert!(rt; !holds(table.is_taught(0)) && !holds(table.is_taught(1)));
     assert!(rt; table.lookup(address(1)).is_none() && table.lookup(address(2)).is_none());
-    assert!(rt; matches!(table.lookup(address(3)), Some(Side::OffRing)));
+    assert_eq!(rt; table.lookup(address(3)), Some(Side::OffRing));
     assert!(rt; table.learn(address(4), 0).is_ok());
     Ok(())
 }
@@ -42,15 +42,13 @@ fn a_frame(rt: HostRuntime) -> Result<(), Fail> {
         return Err(Fail::new("refused"));
     };
     assert_eq!(rt; message.node.number(), 0x0000_5E00_5301);
-    assert!(rt;
-        matches!(
-            message.body,
-            Body::Signal {
-                request: Request::SignalFail,
-                dnf: false,
-                bpr: true
-            }
-        )
+    assert_eq!(rt;
+        message.body,
+        Body::Signal {
+            request: Request::SignalFail,
+            dnf: false,
+            bpr: true
+        }
     );
     assert_eq!(rt; station.seen(), before.seen());
     assert!(rt;

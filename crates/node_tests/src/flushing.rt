@@ -22,15 +22,13 @@ fn short(pair: (NodeId, bool)) -> Pair {
 }
 
 fn walk(rt: &impl Abort, station: &mut Station, steps: &[Step]) -> Result<(), Fail> {
-    let mut number: u32 = 1;
-    for Step(call, flushed, pair0, pair1) in steps {
+    for (number, Step(call, flushed, pair0, pair1)) in (1..).zip(steps) {
         station.call(*call)?;
         let Seen(_, _, _, _, gone) = station.seen();
         assert_eq!(rt; gone, *flushed, "step {number}");
         assert_eq!(rt; short(station.node.values.pair0), *pair0, "step {number}");
         assert_eq!(rt; short(station.node.values.pair1), *pair1, "step {number}");
         station.drives_well(rt, number);
-        number = number.saturating_add(1);
     }
     Ok(())
 }

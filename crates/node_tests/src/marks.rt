@@ -41,12 +41,10 @@ const MISMATCH: [Way; 12] = [
 
 #[test]
 fn mismatch(rt: HostRuntime) -> Result<(), Fail> {
-    let mut number: u32 = 1;
-    for Way(at, path, marked) in &MISMATCH {
+    for (number, Way(at, path, marked)) in (1..).zip(&MISMATCH) {
         let station = Station::brought(*at, path)?;
         assert_eq!(rt; station.node.status().mismatch, *marked, "way {number}");
         station.drives_well(&rt, number);
-        number = number.saturating_add(1);
     }
     Ok(())
 }
@@ -138,14 +136,12 @@ const COMMANDS: [Held; 13] = [
 
 #[test]
 fn commands_and_failures(rt: HostRuntime) -> Result<(), Fail> {
-    let mut number: u32 = 1;
-    for Held(path, failed, forced, manual) in &COMMANDS {
+    for (number, Held(path, failed, forced, manual)) in (1..).zip(&COMMANDS) {
         let station = Station::brought(OWNER, path)?;
         let status = station.node.status();
-        assert_eq!(rt; ports(status.failed), *failed, "way {number}");
-        assert_eq!(rt; ports(status.forced), *forced, "way {number}");
-        assert_eq!(rt; port_under(status.manual), *manual, "way {number}");
-        number = number.saturating_add(1);
+        assert_eq!(rt; Marked::from(status.failed), *failed, "way {number}");
+        assert_eq!(rt; Marked::from(status.forced), *forced, "way {number}");
+        assert_eq!(rt; Marked::from(status.manual), *manual, "way {number}");
     }
     Ok(())
 }

@@ -79,8 +79,7 @@ const PACES: [Pace; 16] = [
 
 #[test]
 fn paces(rt: HostRuntime) -> Result<(), Fail> {
-    let mut number: u32 = 1;
-    for Pace(at, path, before, call, after) in &PACES {
+    for (number, Pace(at, path, before, call, after)) in (1..).zip(&PACES) {
         let mut station = Station::brought(*at, path)?;
         let due = Due {
             burst: before.0,
@@ -96,7 +95,6 @@ fn paces(rt: HostRuntime) -> Result<(), Fail> {
         station.call(*call)?;
         let due = station.node.status().due;
         assert_eq!(rt; (due.burst, due.wait), *after, "pace {number}");
-        number = number.saturating_add(1);
     }
     Ok(())
 }
@@ -122,14 +120,6 @@ fn take_short(node: &mut Node) -> Result<(), NodeFault> {
     node.take_frame(&mut buffer)
 }
 
-fn is_twelve(answer: Result<(), NodeFault>) -> bool {
-    matches!(answer, Err(NodeFault::NoFrameDue))
-}
-
-fn is_seven(answer: Result<(), NodeFault>) -> bool {
-    matches!(answer, Err(NodeFault::Frame(FrameFault::Buffer)))
-}
-
 // Three frames are due at once, then none for 500 ticks; 7 is looked at before 12.
 #[test]
 fn frames_are_taken(rt: HostRuntime) -> Result<(), Fail> {
@@ -140,16 +130,22 @@ fn frames_are_taken(rt: HostRuntime) -> Result<(), Fail> {
     assert!(rt; take(&mut node).is_ok());
     assert!(rt; take(&mut node).is_ok());
     assert!(rt; take(&mut node).is_ok());
-    assert!(rt; is_twelve(take(&mut node)));
+    assert_eq!(rt; take(&mut node), Err(NodeFault::NoFrameDue));
     for _ in 0..499 {
         assert!(rt; node.tick(&mut fabric).is_ok());
     }
-    assert!(rt; is_twelve(take(&mut node)));
+    assert_eq!(rt; take(&mut node), Err(NodeFault::NoFrameDue));
     assert!(rt; node.tick(&mut fabric).is_ok());
-    assert!(rt; is_seven(take_short(&mut node)));
+    assert_eq!(rt;
+        take_short(&mut node),
+        Err(NodeFault::Frame(FrameFault::Buffer))
+    );
     assert!(rt; take(&mut node).is_ok());
-    assert!(rt; is_seven(take_short(&mut node)));
-    assert!(rt; is_twelve(take(&mut node)));
+    assert_eq!(rt;
+        take_short(&mut node),
+        Err(NodeFault::Frame(FrameFault::Buffer))
+    );
+    assert_eq!(rt; take(&mut node), Err(NodeFault::NoFrameDue));
     Ok(())
 }
 

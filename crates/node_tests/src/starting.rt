@@ -118,8 +118,7 @@ const NEW_STATIONS: [(At, Seen); 5] = [
 
 #[test]
 fn set_up(rt: HostRuntime) -> Result<(), Fail> {
-    let mut number: u32 = 1;
-    for (at, seen) in &NEW_STATIONS {
+    for (number, (at, seen)) in (1..).zip(&NEW_STATIONS) {
         let mut fabric = RegisterFabric { word: 0xF234_5678 };
         let Ok(node) = Node::set_up(settings(*at), &mut fabric) else {
             return Err(Fail::new("refused"));
@@ -127,7 +126,6 @@ fn set_up(rt: HostRuntime) -> Result<(), Fail> {
         let station = Station { node, fabric };
         assert_eq!(rt; station.seen(), *seen);
         station.drives_well(&rt, number);
-        number = number.saturating_add(1);
     }
     Ok(())
 }
