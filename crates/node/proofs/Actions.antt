@@ -1,53 +1,31 @@
 -- Each action part of the rows keeps the rules. Assumes nothing.
+use Rattle.std.proofs.lemmas.Bool.Decides.{nat_tests}
 use Rattle.std.proofs.Common.{◌≡◌, true, false, ◌&&◌, is_some, refl, arith}
 use Rattle.std.proofs.lemmas.Bool.{and_parts, and_from, or_right}
 use Rattle.fabric.specs.declared.types.Ports.{Ports}
-use Rattle.node.specs.declared.types.Delay.TheVariants.{Wtr, Wtb}
 use Rattle.node.specs.declared.types.NodeValues.{NodeValues}
-use Rattle.node.specs.declared.types.Outcome.{Outcome}
 use Rattle.node.specs.declared.types.Port.{Port}
-use Rattle.node.specs.declared.types.Port.TheVariants.{Zero, One}
-use Rattle.node.specs.declared.types.State.{State}
-use Rattle.node.specs.declared.types.State.TheVariants.{Idle, Protection, Pending}
-use Rattle.node.specs.declared.types.State.TheVariants.{ManualSwitch as Manual, ForcedSwitch as Forced}
+use Rattle.node.specs.declared.types.State.TheVariants.{Pending}
+use Rattle.node.specs.declared.types.State.TheVariants.{ForcedSwitch as Forced}
 use Rattle.node.specs.declared.types.Timers.{Timers}
-use Rattle.node.specs.Names.{by_state, is_owner, is_other}
+use Rattle.node.specs.Names.{by_state, is_owner}
 use Rattle.node.specs.Ports.{with_mark, some, within}
-use Rattle.node.specs.Rows.{seize_failed, force_new, force_more, manual_row, rest, release, yield_to, pend, present, open_both, clear_fail}
+use Rattle.node.specs.Rows.{seize_failed, force_new, force_more, manual_row, rest, release, pend, present, clear_fail}
 use Rattle.node.specs.Rules.{settings_ok, timers_ok}
 use Rattle.node.proofs.Lawful.{Sound, Runs}
-use Rattle.node.proofs.Split.{in_cond}
-use Rattle.node.proofs.Timing.{stopped_ok, awaits_ok}
-
-within_self : (f : Ports) → within f f ≡ true
-within_self f = grind arith
+use Rattle.node.proofs.Timing.{stopped_ok}
 
 pub some_marked : (m : Ports) (p : Port) → some (with_mark m p true) ≡ true
-some_marked m Zero = refl
-some_marked m One = grind arith
+some_marked m p = grind (arith, nat_tests)
 
 within_more : (m n : Ports) (p : Port) → within m n ≡ true → within (with_mark m p true) (with_mark n p true) ≡ true
 within_more m n p e = grind arith
 
 pub seize_failed_sound : (v : NodeValues) → settings_ok v.settings ≡ true → Runs v → some v.failed ≡ true → Sound (seize_failed v).values
-seize_failed_sound v g t f = record {
-  settings = g;
-  failed = within_self v.failed;
-  forced = refl;
-  sending = grind arith;
-  timers = stopped_ok v Protection t;
-  idle = grind arith;
-}
+seize_failed_sound v g t f = grind (arith, nat_tests)
 
 pub force_new_sound : (v : NodeValues) (p : Port) → settings_ok v.settings ≡ true → Runs v → Sound (force_new v p).values
-force_new_sound v p g t = record {
-  settings = g;
-  failed = refl;
-  forced = grind arith;
-  sending = grind arith;
-  timers = stopped_ok v Forced t;
-  idle = grind arith;
-}
+force_new_sound v p g t = grind (arith, nat_tests)
 
 pub force_more_sound : (v : NodeValues) (p : Port) → Sound v → v.state ≡ Forced → Sound (force_more v p).values
 force_more_sound v p s e = record {
@@ -60,74 +38,21 @@ force_more_sound v p s e = record {
 }
 
 pub manual_sound : (v : NodeValues) (p : Port) → settings_ok v.settings ≡ true → Runs v → some v.failed ≡ false → Sound (manual_row v p).values
-manual_sound v p g t f = record {
-  settings = g;
-  failed = grind arith;
-  forced = grind arith;
-  sending = grind arith;
-  timers = stopped_ok v Manual t;
-  idle = grind arith;
-}
+manual_sound v p g t f = grind (arith, nat_tests)
 
 pub rest_sound : (v : NodeValues) → settings_ok v.settings ≡ true → Runs v → some v.failed ≡ false → is_owner v.settings.role ≡ true → Sound (rest v).values
-rest_sound v g t f o = record {
-  settings = g;
-  failed = grind arith;
-  forced = refl;
-  sending = grind arith;
-  timers = stopped_ok v Idle t;
-  idle = grind arith;
-}
+rest_sound v g t f o = grind (arith, nat_tests)
 
 -- with a port blocked and none failed
 pub release_sound : (v : NodeValues) → settings_ok v.settings ≡ true → some v.blocked ≡ true → some v.failed ≡ false → Sound (release v)
-release_sound v g b f =
-    in_cond Sound (some v.blocked) _ _
-    (λ _. record {
-      settings = g;
-      failed = grind arith;
-      forced = refl;
-      sending = grind arith;
-      timers = awaits_ok v.settings Wtb 50 refl;
-      idle = grind arith;
-    })
-    (λ n. absurd (grind arith))
-
--- opening all that did not fail, from a state without failures
-pub yield_sound : (v : NodeValues) (s : State) → settings_ok v.settings ≡ true → Runs v → some v.failed ≡ false
-    → by_state s (is_other v.settings.role) true true false true ≡ true → Sound (yield_to v s).values
-yield_sound v s g t f a = record {
-  settings = g;
-  failed = grind arith;
-  forced = grind arith;
-  sending = grind arith;
-  timers = stopped_ok v s t;
-  idle = grind arith;
-}
-
-pub hear_force_sound : (v : NodeValues) → settings_ok v.settings ≡ true → Runs v → Sound (open_both v).values
-hear_force_sound v g t = record {
-  settings = g;
-  failed = refl;
-  forced = refl;
-  sending = grind arith;
-  timers = stopped_ok v Forced t;
-  idle = grind arith;
-}
+release_sound v g b f = grind (arith, nat_tests)
 
 -- local SF is presented where a port failed; where none did, what was there has to keep the rules
 pub present_sound : (v : NodeValues) → settings_ok v.settings ≡ true → Runs v → (some v.failed ≡ false → Sound v) → Sound (present v).values
-present_sound v g t s = in_cond (λ (o : Outcome). Sound o.values) (some v.failed) _ _ (λ f. seize_failed_sound v g t f) s
+present_sound v g t s = grind (arith, nat_tests)
 
 pub clear_fail_sound : (v : NodeValues) → settings_ok v.settings ≡ true → some v.blocked ≡ true → some v.failed ≡ false → Sound (clear_fail v).values
-clear_fail_sound v g b f = record {
-  settings = g;
-  failed = grind arith;
-  forced = refl;
-  sending = grind arith;
-  timers = awaits_ok v.settings Wtr 50 refl;
-  idle = grind arith;
-}
+clear_fail_sound v g b f = grind (arith, nat_tests)
 
 -- no command is in force and no failure stands that counts
 pub record Free (v : NodeValues) : Type 0 where

@@ -1,8 +1,7 @@
 -- Each row of a received message keeps the rules. Assumes nothing.
-use Rattle.std.proofs.Common.{◌≡◌, ℕ, suc, ◌≤◌, max, Bool, true, false, cond, not, ◌&&◌, eqb, ltb, List, [], ◌∷◌, is_some, Some, None, Option, sym, refl, ◌∙◌, arith, lit≤}
-use Rattle.std.proofs.lemmas.Bool.{and_parts, not-true, eqb-true}
-use Rattle.std.specs.Bool.{then_some}
-use Rattle.std.specs.Option.{option_map}
+use Rattle.std.proofs.lemmas.Bool.Decides.{nat_tests}
+use Rattle.std.proofs.Common.{◌≡◌, ℕ, suc, ◌≤◌, true, false, not, ◌&&◌, ltb, refl, arith, lit≤}
+use Rattle.std.proofs.lemmas.Bool.{and_parts, not-true}
 use Rattle.frame.specs.Highest.{first_highest, highest_rank, option_rank}
 use Rattle.frame.specs.declared.types.Body.{Body}
 use Rattle.frame.specs.declared.types.Body.TheVariants.{Event, Signal}
@@ -11,43 +10,30 @@ use Rattle.frame.specs.declared.types.NodeId.{NodeId}
 use Rattle.frame.specs.declared.types.Request.{Request}
 use Rattle.frame.specs.declared.types.Request.TheVariants.{NoRequest, RplBlocked, ManualSwitch, SignalFail, ForcedSwitch}
 use Rattle.node.specs.declared.claims.Claim.{Claim}
-use Rattle.node.specs.declared.claims.Claim.TheVariants.{LocalFail, WtrRunning, WtbRunning}
-use Rattle.node.specs.declared.claims.Claim.TheVariants.{Forced as ForcingClaim, Manual as ManualClaim}
 use Rattle.node.specs.declared.types.Delay.{Delay}
 use Rattle.node.specs.declared.types.Delay.TheVariants.{Wtr, Wtb}
 use Rattle.node.specs.declared.types.Heard.{Heard}
 use Rattle.node.specs.declared.types.NodeValues.{NodeValues}
 use Rattle.node.specs.declared.types.Outcome.{Outcome}
 use Rattle.node.specs.declared.types.Port.{Port}
-use Rattle.node.specs.declared.types.Port.TheVariants.{Zero, One}
-use Rattle.node.specs.declared.types.Role.{Role}
-use Rattle.node.specs.declared.types.Role.TheVariants.{Other, Owner, Neighbour}
 use Rattle.node.specs.declared.types.State.{State}
-use Rattle.node.specs.declared.types.State.TheVariants.{Idle, Protection, Pending}
-use Rattle.node.specs.declared.types.State.TheVariants.{ManualSwitch as Manual, ForcedSwitch as Forced}
+use Rattle.node.specs.declared.types.State.TheVariants.{Idle, Pending}
+use Rattle.node.specs.declared.types.State.TheVariants.{ForcedSwitch as Forced}
 use Rattle.node.specs.declared.types.Timers.{Timers}
-use Rattle.node.specs.Claims.{claim_of, claim_rank, standing, is_first, reaches, fail_stands}
+use Rattle.node.specs.Claims.{claim_of, claim_rank, standing, reaches}
 use Rattle.node.specs.Names.{by_state, is_owner, is_other}
 use Rattle.node.specs.Ports.{some, implies, meet}
 use Rattle.node.specs.Receiving.{is_own, noted, reaches_row, row_of, flush_logic, after_body, after_message}
 use Rattle.node.specs.Rows.{heard_forced, heard_fail, heard_manual, heard_rpl_blocked, heard_no_request, heard_row, higher, pend, present, yield_to, to_idle, no_commands, quiet_unless_owner, awaits}
-use Rattle.node.specs.Rules.{makes_node, idle_ports, settings_ok, failed_ok, sending_ok, timers_ok, idle_ok}
+use Rattle.node.specs.Rules.{makes_node, idle_ports, sending_ok, timers_ok, idle_ok}
 use Rattle.node.specs.Settling.{settle}
-use Rattle.node.proofs.Actions.{Free, hear_force_sound, yield_sound, release_sound, pend_sound, present_sound}
+use Rattle.node.proofs.Actions.{Free, pend_sound}
 use Rattle.node.proofs.Keeps.{Keeps, none_failed}
-use Rattle.node.proofs.Lawful.{Sound, Failed, Forcing, Speaks, Runs, Rests, Bursts, owed, all_rules}
+use Rattle.node.proofs.Lawful.{Sound, Forcing, Speaks, Rests, Bursts, owed, all_rules}
 use Rattle.node.proofs.Split.{in_state, in_cond}
-use Rattle.node.proofs.Timing.{guard_ok, awaits_ok, pend_ok, stopped_ok}
+use Rattle.node.proofs.Timing.{guard_ok, awaits_ok, pend_ok}
 
 -- ---- what it means to be the highest
-
-later_not_first : (o : Option ℕ) → is_first (option_map suc o) ≡ false
-later_not_first None = refl
-later_not_first (Some n) = refl
-
-first_tops : (b : Bool) (o : Option ℕ) → is_first (cond b (Some 0) (option_map suc o)) ≡ true → b ≡ true
-first_tops true o e = refl
-first_tops false o e = sym (later_not_first o) ∙ e
 
 -- nothing that stands ranks higher
 abbrev pub standing_rank : NodeValues → ℕ
@@ -55,49 +41,26 @@ standing_rank v = highest_rank (option_rank claim_rank) (standing v)
 
 pub none_higher : (v : NodeValues) (c : Claim) → reaches v c ≡ true → standing_rank v ≤ suc (claim_rank c)
 unfolding reaches first_highest
-none_higher v c e =
-    let top : eqb (suc (claim_rank c)) (max (suc (claim_rank c)) (standing_rank v)) ≡ true = first_tops _ _ e in
-    let same : suc (claim_rank c) ≡ max (suc (claim_rank c)) (standing_rank v) = eqb-true _ _ top in
-    omega arith
-
-abbrev pub five : Bool → Bool → Bool → Bool → Bool → List (Option Claim)
-five a b c d e = then_some a ForcingClaim ∷ then_some b LocalFail ∷ then_some c ManualClaim ∷ then_some d WtrRunning ∷ then_some e WtbRunning ∷ []
-
-low_claims : (a b c d e : Bool) (n : ℕ) → n ≤ 3 → highest_rank (option_rank claim_rank) (five a b c d e) ≤ n
-    → (a ≡ false) × (b ≡ false) × (c ≡ false)
-low_claims true b c d e n l h = absurd (omega arith)
-low_claims false true c d e n l h = absurd (omega arith)
-low_claims false false true d e n l h = absurd (omega arith)
-low_claims false false false d e n l h = (refl, refl, refl)
+none_higher v c e = grind (arith, nat_tests)
 
 -- NR and NR,RB reach a row only where no command is in force and no failure stands
 pub free_of : (v : NodeValues) (c : Claim) → claim_rank c ≤ 2 → reaches v c ≡ true → Free v
-free_of v c l e =
-    let f = low_claims (some v.commands.forced) (fail_stands v) (is_some v.commands.manual) (ltb 0 v.timers.wtr) (ltb 0 v.timers.wtb) (suc (claim_rank c)) (omega arith) (none_higher v c e) in
-    record { forced = f.0; failed = f.1; manual = f.2 }
+free_of v c l e = let h = none_higher v c e in grind (arith, nat_tests)
 
 -- ---- the rows
 
 heard_forced_keeps : (v : NodeValues) → Sound v → Sound (heard_forced v).values
-heard_forced_keeps v s =
-    let new = hear_force_sound v s.settings s.timers in
-    in_state Keeps v.state _ _ _ _ _ (λ _. new) (λ _. new) (λ _. new) (λ _. s) (λ _. new)
+heard_forced_keeps v s = grind (arith, nat_tests)
 
 yields : (v : NodeValues) (u : State) → Sound v → by_state v.state true false true false true ≡ true
     → by_state u (is_other v.settings.role) true true false true ≡ true → Sound (yield_to v u).values
-yields v u s e a = yield_sound v u s.settings s.timers (none_failed v s.failed e) a
+yields v u s e a = grind (arith, nat_tests)
 
 heard_fail_keeps : (v : NodeValues) → Sound v → Sound (heard_fail v).values
-heard_fail_keeps v s =
-    in_state Keeps v.state _ _ _ _ _
-    (λ e. yields v Protection s (rw e refl) refl) (λ _. s) (λ e. yields v Protection s (rw e refl) refl) (λ _. s) (λ e. yields v Protection s (rw e refl) refl)
+heard_fail_keeps v s = grind (arith, nat_tests)
 
 heard_manual_keeps : (v : NodeValues) → Sound v → Sound (heard_manual v).values
-heard_manual_keeps v s =
-    in_state Keeps v.state _ _ _ _ _
-    (λ e. yields v Manual s (rw e refl) refl) (λ _. s)
-    (λ e. in_cond Sound (some v.blocked) _ _ (λ b. release_sound v s.settings b (none_failed v s.failed (rw e refl))) (λ _. s))
-    (λ _. s) (λ e. yields v Manual s (rw e refl) refl)
+heard_manual_keeps v s = grind (arith, nat_tests)
 
 -- outside forced switch nothing is failed
 free_failed : (v : NodeValues) → Free v → by_state v.state true true true false true ≡ true → some v.failed ≡ false
@@ -109,7 +72,7 @@ pends v t s n e k = pend_sound v t s n (free_failed v n (grind arith)) (grind ar
 
 pends_forced : (v : NodeValues) (t : Timers) → Sound v → Free v → v.state ≡ Forced
     → timers_ok v.settings.role v.settings.revertive Pending t ≡ true → Sound (present (pend v t)).values
-pends_forced v t s n e k = present_sound (pend v t) s.settings k (λ f. pend_sound v t s n f (rw e refl) k)
+pends_forced v t s n e k = grind (arith, nat_tests)
 
 -- an owner that hears NR,RB of another has the mark
 abbrev Marked : NodeValues → Type 0
@@ -123,32 +86,8 @@ idle_rests : (v : NodeValues) → Rests v → v.state ≡ Idle
     → idle_ok v.settings.role v.settings.rpl Idle (meet v.blocked (idle_ports v.settings.role v.settings.rpl)) v.mismatch ≡ true
 idle_rests v i e = grind arith
 
-to_idle_speaks : (v : NodeValues) → Speaks v → Forcing v → Marked v → v.state ≡ Pending → Speaks (to_idle v.settings.role v)
-to_idle_speaks v s c m e = grind arith
-
-to_idle_rests : (v : NodeValues) → Marked v → Rests (to_idle v.settings.role v)
-to_idle_rests v m = grind arith
-
--- the role changes neither settings, failures nor commands
-role_alike : (r : Role) (v : NodeValues) (P : NodeValues → Type 0) → P (to_idle Other v) → P (to_idle Owner v) → P (to_idle Neighbour v) → P (to_idle r v)
-role_alike Other v P a b c = a
-role_alike Owner v P a b c = b
-role_alike Neighbour v P a b c = c
-
 to_idle_sound : (v : NodeValues) → Sound v → Marked v → v.state ≡ Pending → Sound (to_idle v.settings.role v)
-to_idle_sound v s m e =
-    let r = v.settings.role in
-    let f = none_failed v s.failed (rw e refl) in
-    let t = stopped_ok v Idle s.timers in
-    let nf : failed_ok Idle v.blocked v.failed ≡ true = grind arith in
-    record {
-      settings = role_alike r v (λ (w : NodeValues). settings_ok w.settings ≡ true) s.settings s.settings s.settings;
-      failed = role_alike r v Failed nf nf nf;
-      forced = role_alike r v Forcing refl refl refl;
-      sending = to_idle_speaks v s.sending s.forced m e;
-      timers = role_alike r v Runs t t t;
-      idle = to_idle_rests v m;
-    }
+to_idle_sound v s m e = grind (arith, nat_tests)
 
 heard_rpl_blocked_keeps : (v : NodeValues) → Sound v → Free v → Marked v → Sound (heard_rpl_blocked v).values
 heard_rpl_blocked_keeps v s n m =
@@ -217,8 +156,7 @@ row_keeps v q s =
 
 -- the flush logic changes pairs alone
 logic_keeps : (o : Outcome) (p : Port) (q : Heard) → makes_node o.values ≡ true → makes_node (flush_logic o p q).values ≡ true
-logic_keeps o Zero q e = e
-logic_keeps o One q e = e
+logic_keeps o p q e = grind (arith, nat_tests)
 
 body_keeps : (v : NodeValues) (p : Port) (i : NodeId) (b : Body) → Sound v → Bursts v → makes_node (after_body v p i b).values ≡ true
 body_keeps v p i Event s u = all_rules v s u

@@ -14,10 +14,10 @@ use Rattle.node.specs.Ports.{at, with_mark, some}
 use Rattle.node.specs.Rows.{force_row, manual_row, fail_row, newly_failed, repair_row, clear_row, with_failed, release}
 use Rattle.node.specs.Rules.{settings_ok}
 use Rattle.node.specs.Settling.{lowered, tick_row, expires}
-use Rattle.node.proofs.Actions.{force_new_sound, force_more_sound, manual_sound, rest_sound, release_sound, seize_failed_sound, clear_fail_sound, present_sound, some_marked}
+use Rattle.node.proofs.Actions.{force_new_sound, force_more_sound, rest_sound, release_sound, seize_failed_sound, clear_fail_sound, present_sound, some_marked}
 use Rattle.node.proofs.Lawful.{Sound, Failed, Forcing, Runs}
 use Rattle.node.proofs.Split.{in_state, in_cond}
-use Rattle.node.proofs.Timing.{awaits_ok, lowered_ok, pend_ok}
+use Rattle.node.proofs.Timing.{awaits_ok, pend_ok}
 
 abbrev pub Keeps : Outcome → Type 0
 Keeps o = Sound o.values
@@ -32,23 +32,14 @@ force_keeps v p s =
     in_state Keeps v.state _ _ _ _ _ (λ _. new) (λ _. new) (λ _. new) (λ e. force_more_sound v p s e) (λ _. new)
 
 pub manual_keeps : (v : NodeValues) (p : Port) → takes_manual v ≡ true → Sound v → Sound (manual_row v p).values
-manual_keeps v p t s = manual_sound v p s.settings s.timers (none_failed v s.failed (grind arith))
+manual_keeps v p t s = grind (arith, nat_tests)
 
 -- in forced switch the failed marks are free
 marked : (v : NodeValues) (f : Ports) → v.state ≡ Forced → Sound v → Sound (with_failed v f)
-marked v f e s = record {
-  settings = s.settings;
-  failed = grind arith;
-  forced = s.forced;
-  sending = let q = s.sending in grind arith;
-  timers = s.timers;
-  idle = s.idle;
-}
+marked v f e s = grind (arith, nat_tests)
 
 newly_keeps : (v : NodeValues) → settings_ok v.settings ≡ true → Runs v → some v.failed ≡ true → (v.state ≡ Forced → Sound v) → Sound (newly_failed v).values
-newly_keeps v g t f s =
-    let seized = seize_failed_sound v g t f in
-    in_state Keeps v.state _ _ _ _ _ (λ _. seized) (λ _. seized) (λ _. seized) s (λ _. seized)
+newly_keeps v g t f s = grind (arith, nat_tests)
 
 pub fail_keeps : (v : NodeValues) (p : Port) → Sound v → Sound (fail_row v p).values
 fail_keeps v p s =
@@ -88,10 +79,10 @@ release_runs : (v : NodeValues) → Runs v → Runs (release v)
 release_runs v t = in_cond Runs (some v.blocked) _ _ (λ _. awaits_ok v.settings Wtb 50 refl) (λ _. pend_ok v t)
 
 release_settings : (v : NodeValues) → settings_ok v.settings ≡ true → settings_ok (release v).settings ≡ true
-release_settings v g = in_cond (λ (w : NodeValues). settings_ok w.settings ≡ true) (some v.blocked) _ _ (λ _. g) (λ _. g)
+release_settings v g = grind (arith, nat_tests)
 
 release_failed : (v : NodeValues) → some (release v).failed ≡ false → some v.failed ≡ false
-release_failed v = in_cond (λ (w : NodeValues). some w.failed ≡ false → some v.failed ≡ false) (some v.blocked) _ _ (λ _ f. f) (λ _ f. f)
+release_failed v = grind (arith, nat_tests)
 
 pub clear_keeps : (v : NodeValues) → takes_clear v ≡ true → Sound v → Sound (clear_row v).values
 clear_keeps v m s =
@@ -106,14 +97,7 @@ pub waits : (v : NodeValues) → Runs v → expires v.timers ≡ true → (is_ow
 waits v t e = grind (arith, nat_tests)
 
 lowered_sound : (v : NodeValues) → Sound v → Sound (lowered v)
-lowered_sound v s = record {
-  settings = s.settings;
-  failed = s.failed;
-  forced = s.forced;
-  sending = s.sending;
-  timers = lowered_ok v s.timers;
-  idle = s.idle;
-}
+lowered_sound v s = grind (arith, nat_tests)
 
 pub tick_keeps : (v : NodeValues) → Sound v → Sound (tick_row v).values
 tick_keeps v s =

@@ -1,8 +1,9 @@
 -- The rules together, and what settling keeps of them. Assumes nothing.
-use Rattle.std.proofs.Common.{◌≡◌, ℕ, Bool, true, false, cond, not, eqb, Some, None, Option, refl}
+use Rattle.std.proofs.Common.{arith}
+use Rattle.std.proofs.lemmas.Bool.Decides.{nat_tests}
+use Rattle.std.proofs.Common.{◌≡◌, ℕ, Bool, true, cond, not, eqb, Option}
 use Rattle.std.proofs.lemmas.Bool.{and_parts, and_from, eqb-true}
 use Rattle.frame.specs.declared.types.Request.{Request}
-use Rattle.frame.specs.declared.types.Request.TheVariants.{NoRequest, RplBlocked, ManualSwitch, SignalFail, ForcedSwitch}
 use Rattle.node.specs.declared.node.Node.{Node}
 use Rattle.node.specs.declared.types.Due.{Due}
 use Rattle.node.specs.declared.types.NodeValues.{NodeValues}
@@ -70,17 +71,10 @@ parts v e =
     }
 
 sending_number : (r : Option Request) → is_sending r ≡ not (eqb (sent_number r) 0)
-sending_number None = refl
-sending_number (Some NoRequest) = refl
-sending_number (Some RplBlocked) = refl
-sending_number (Some ManualSwitch) = refl
-sending_number (Some SignalFail) = refl
-sending_number (Some ForcedSwitch) = refl
+sending_number r = grind (arith, nat_tests)
 
 due_go : (s x y : Bool) (b w : ℕ) → (s ≡ true → x ≡ y) → due_ok x b w ≡ true → due_ok y (cond s b (cond y 3 0)) (cond s w 0) ≡ true
-due_go true x y b w e d = rw (e refl) at d
-due_go false x true b w e d = refl
-due_go false x false b w e d = refl
+due_go s x y b w e d = grind (arith, nat_tests)
 
 alike_sending : (v w : NodeValues) → same_sent v w ≡ true → is_sending v.sending.request ≡ is_sending w.sending.request
 alike_sending v w e =
@@ -91,8 +85,7 @@ alike_sending v w e =
     cc
 
 cond_parts : {A B : Type 0} (s : Bool) (f : A → B) (x y : A) → f (cond s x y) ≡ cond s (f x) (f y)
-cond_parts true f x y = refl
-cond_parts false f x y = refl
+cond_parts s f x y = grind (arith, nat_tests)
 
 settled_burst : (v w : NodeValues) → Bursts v → Bursts (settled v w)
 settled_burst v w c =
