@@ -57,6 +57,7 @@ impl NodeValues {
 
 impl Node {
     // The one place where a node's values change.
+    #[tactic(auto, using(crate::proofs::Lawful::parts))]
     pub(crate) fn write(&mut self, values: NodeValues)
         requires { makes_node values ≡ true }
         ensures { self.new.values ≡ values }

@@ -118,6 +118,7 @@ impl NodeValues {
 
 impl Node {
     // The node that plain values make; none where they break a rule.
+    #[tactic(auto, using(crate::proofs::Lawful::parts))]
     pub fn from_values(values: NodeValues) -> Option<Node>
         ensures { MatchOption result (makes_node values ≡ false) (λ n. (n.values ≡ values) × (makes_node values ≡ true)) }
     {

@@ -6,8 +6,9 @@ use crate::ports::some;
 use crate::types::{NodeValues, State};
 use frame::{Ranked, Request, highest};
 
-// A request of the table, highest first. The Heard ones are received messages.
-#[derive(Clone, Copy, PartialEq, Eq, Debug)]
+// A request of the table, highest first, so that the lesser in the derived order stands higher. The Heard ones are
+// received messages.
+#[derive(Clone, Copy, PartialEq, Eq, PartialOrd, Ord, Debug)]
 pub enum Claim {
     Clear,
     Forced,
@@ -25,34 +26,11 @@ pub enum Claim {
     HeardNoRequest,
 }
 
-impl Claim {
-    fn rank(self) -> u8
-        ensures { result ≡ claim_rank self }
-    {
-        match self {
-            Claim::Clear => 14,
-            Claim::Forced => 13,
-            Claim::HeardForced => 12,
-            Claim::LocalFail => 11,
-            Claim::LocalClearFail => 10,
-            Claim::HeardFail => 9,
-            Claim::HeardManual => 8,
-            Claim::Manual => 7,
-            Claim::WtrExpires => 6,
-            Claim::WtrRunning => 5,
-            Claim::WtbExpires => 4,
-            Claim::WtbRunning => 3,
-            Claim::HeardRplBlocked => 2,
-            Claim::HeardNoRequest => 1,
-        }
-    }
-}
-
 impl Ranked for Claim {
     ghost rank = { claim_rank };
 
     fn outranks(&self, other: &Claim) -> bool {
-        other.rank() < self.rank()
+        self < other
     }
 }
 
