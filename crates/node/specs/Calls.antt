@@ -111,7 +111,7 @@ given_step v m p (Ok u) (Err e) = turned_away v m (node_refusal p e)
 given_step v m p (Err e) r = turned_away v m (node_refusal p e)
 
 -- what a call owes to its step: the node's values, and the fabric's marks; what the fabric keeps stays
-pub record Left {F : Type 0} (marked : F → Marks) (keeps : F → List (List ℕ)) (step : Step) (old new : F) (after : NodeValues) : Type 0 where
+pub record Leaves {F : Type 0} (marked : F → Marks) (keeps : F → List (List ℕ)) (step : Step) (old new : F) (after : NodeValues) : Type 0 where
   pub values : after ≡ step.values
   pub marks : marked new ≡ step.marks
   pub kept : keeps new ≡ keeps old

@@ -1,6 +1,6 @@
 // The calls of a node, over any fabric.
 ghost use Rattle.std.specs.Prelude.{◌≡◌, ℕ, true, if◌then◌else◌, Some, None, Ok, Err, IfOk, Option};
-ghost use Rattle.node.specs.Calls.{Left, SetUp, Stepped, clear_step, cleared, deliver_step, fail_step, force_step, given_step, in_step, manual_step, message_step, outcome, question, repair_step, restart_step, set_up_marks, status_of, switched, taken, takes_clear, takes_manual, tick_step};
+ghost use Rattle.node.specs.Calls.{Leaves, SetUp, Stepped, clear_step, cleared, deliver_step, fail_step, force_step, given_step, in_step, manual_step, message_step, outcome, question, repair_step, restart_step, set_up_marks, status_of, switched, taken, takes_clear, takes_manual, tick_step};
 ghost use Rattle.node.specs.Faults.{told_at};
 ghost use Rattle.node.specs.Rules.{makes_node, settings_ok};
 ghost use Rattle.node.specs.declared.faults.NodeFault.TheVariants.{NotNow, NothingToClear};
@@ -68,13 +68,14 @@ impl Node {
     // Writes what a call gave, and drives the fabric to it.
     fn commit<F: Fabric>(&mut self, fabric: &mut F, o: Outcome)
         requires { makes_node o.values ≡ true }
-        ensures { Left F.marks F.kept (taken (F.marks fabric.old) o) fabric.old fabric.new self.new.values }
+        ensures { Leaves F.marks F.kept (taken (F.marks fabric.old) o) fabric.old fabric.new self.new.values }
     {
         drive(fabric, o.values.blocked, o.flush);
         self.write(o.values);
     }
 
-    // What every call that can be refused owes: a node in step takes what the call gives.
+    // What every call that can be refused owes: a node in step takes what the call gives. That is a value, since rows work
+    // on values alone: a closure that gives it later would be no plainer.
     fn take<F: Fabric>(
         &mut self,
         fabric: &mut F,
@@ -156,7 +157,7 @@ impl Node {
 
     // Start again: settings and failures stay.
     pub fn restart<F: Fabric>(&mut self, fabric: &mut F)
-        ensures { Left F.marks F.kept (restart_step self.old.values (F.marks fabric.old)) fabric.old fabric.new self.new.values }
+        ensures { Leaves F.marks F.kept (restart_step self.old.values (F.marks fabric.old)) fabric.old fabric.new self.new.values }
     {
         let o = self.values.restarted();
         self.commit(fabric, o);

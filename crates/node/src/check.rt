@@ -35,10 +35,7 @@ impl NodeValues {
         match self.state {
             State::ManualSwitch => {
                 commands.forced == NO_PORT
-                    && match commands.manual {
-                        Some(port) => at(self.blocked, port),
-                        None => true,
-                    }
+                    && commands.manual.is_none_or(|port| at(self.blocked, port))
             }
             State::ForcedSwitch => {
                 within(commands.forced, self.blocked) && commands.manual.is_none()

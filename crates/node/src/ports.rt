@@ -1,4 +1,4 @@
-// Marks for two ports.
+// Marks for two ports: functions, since `Ports` is the fabric library's.
 ghost use Rattle.std.specs.Prelude.{◌≡◌};
 ghost use Rattle.node.specs.Ports.{at, bpr_of, meet, none, only, some, with_mark, within};
 

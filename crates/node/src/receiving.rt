@@ -155,7 +155,7 @@ impl NodeValues {
         ensures { result ≡ noted self heard }
     {
         NodeValues {
-            mismatch: self.mismatch | self.is_foreign_rb(heard),
+            mismatch: self.mismatch || self.is_foreign_rb(heard),
             ..self
         }
     }
@@ -245,11 +245,12 @@ impl NodeValues {
     }
 }
 
-// Pairs of a Node ID and a BPR compare by the ID's number.
+// Pairs of a Node ID and a BPR compare by the ID's number. (By `==` of the octets was tried: that each is below 256 is not
+// known to a proof where an ID lies inside a pair, so that equal numbers could not be shown to mean equal octets.)
 fn same_pair(a: (NodeId, bool), b: (NodeId, bool)) -> bool
     ensures { result ≡ same_pair a b }
 {
-    (a.0.number() == b.0.number()) & (a.1 == b.1)
+    a.0.number() == b.0.number() && a.1 == b.1
 }
 
 impl Heard {
@@ -280,7 +281,7 @@ impl Outcome {
         let pair = heard.pair_after(self.values.pair_at(port));
         Outcome {
             values: self.values.with_pair(port, pair),
-            flush: self.flush | self.values.pair_flushes(heard),
+            flush: self.flush || self.values.pair_flushes(heard),
         }
     }
 }

@@ -216,7 +216,8 @@ impl NodeValues {
         )
     }
 
-    // In forced switch a failure is only noted.
+    // In forced switch a failure is only noted. (The rows of a failure and of a repair differ in all but the mark that they
+    // set: one function with a flag would part at every line.)
     fn newly_failed(self) -> Outcome
         ensures { result ≡ newly_failed self }
     {

@@ -1,6 +1,6 @@
 // Calls that a node declines: nothing changes.
 use crate::bench::*;
-use frame::worked_frame;
+use frame::{FRAME_LENGTH, worked_frame};
 use node::NodeFault;
 use std::test::*;
 
@@ -265,9 +265,9 @@ fn places(rt: HostRuntime) -> Result<(), Fail> {
 }
 
 // The frame of SF, BPR 1, from the station whose ID ends 01, with one octet changed.
-fn damaged(offset: usize, octet: u8) -> [u8; 55] {
+fn damaged(offset: usize, octet: u8) -> [u8; FRAME_LENGTH] {
     let mut frame = worked_frame();
-    if offset < 55 {
+    if offset < FRAME_LENGTH {
         frame[offset] = octet;
     }
     frame

@@ -18,6 +18,7 @@ const OWNER: Settings = Settings {
     revertive: true,
 };
 
+// Names by functions: the types are of the libraries, and a type of our own around each, to be printed, would be no plainer.
 fn state_name(state: State) -> &'static str {
     match state {
         State::Idle => "A idle",
@@ -52,23 +53,27 @@ fn message_name(sent: Option<Request>) -> &'static str {
 #[derive(Clone, Copy)]
 struct Running(Timers);
 
+const NO_TIMER: Timers = Timers {
+    guard: 0,
+    wtr: 0,
+    wtb: 0,
+};
+
 impl fmt::Display for Running {
     fn fmt<W: fmt::Write>(&self, f: &mut fmt::Formatter<W>) -> fmt::Result {
         let timers = self.0;
-        if timers.guard == 0 && timers.wtr == 0 && timers.wtb == 0 {
+        if timers == NO_TIMER {
             return write!(f, ", no timer");
         }
-        if timers.guard > 0 {
-            let ticks = timers.guard;
-            write!(f, ", guard {ticks}")?;
-        }
-        if timers.wtr > 0 {
-            let ticks = timers.wtr;
-            write!(f, ", WTR {ticks}")?;
-        }
-        if timers.wtb > 0 {
-            let ticks = timers.wtb;
-            write!(f, ", WTB {ticks}")?;
+        let running = [
+            ("guard", timers.guard),
+            ("WTR", timers.wtr),
+            ("WTB", timers.wtb),
+        ];
+        for (name, ticks) in running {
+            if ticks > 0 {
+                write!(f, ", {name} {ticks}")?;
+            }
         }
         Ok(())
     }
