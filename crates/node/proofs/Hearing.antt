@@ -22,14 +22,14 @@ use Rattle.node.specs.declared.types.State.TheVariants.{ForcedSwitch as Forced}
 use Rattle.node.specs.declared.types.Timers.{Timers}
 use Rattle.node.specs.Claims.{claim_of, claim_rank, standing, reaches}
 use Rattle.node.specs.Names.{by_state, is_owner, is_other}
-use Rattle.node.specs.Ports.{some, implies, meet}
+use Rattle.node.specs.Ports.{some, implies}
 use Rattle.node.specs.Receiving.{is_own, noted, reaches_row, row_of, flush_logic, after_body, after_message}
-use Rattle.node.specs.Rows.{heard_forced, heard_fail, heard_manual, heard_rpl_blocked, heard_no_request, heard_row, higher, pend, present, yield_to, to_idle, no_commands, quiet_unless_owner, awaits}
-use Rattle.node.specs.Rules.{makes_node, idle_ports, sending_ok, timers_ok, idle_ok}
+use Rattle.node.specs.Rows.{heard_forced, heard_fail, heard_manual, heard_rpl_blocked, heard_no_request, heard_row, higher, pend, present, yield_to, to_idle, awaits}
+use Rattle.node.specs.Rules.{makes_node, timers_ok}
 use Rattle.node.specs.Settling.{settle}
 use Rattle.node.proofs.Actions.{Free, pend_sound}
 use Rattle.node.proofs.Keeps.{Keeps, none_failed}
-use Rattle.node.proofs.Lawful.{Sound, Forcing, Speaks, Rests, Bursts, owed, all_rules}
+use Rattle.node.proofs.Lawful.{Sound, Speaks, Rests, Bursts, owed, all_rules}
 use Rattle.node.proofs.Split.{in_state, in_cond}
 use Rattle.node.proofs.Timing.{guard_ok, awaits_ok, pend_ok}
 
@@ -78,14 +78,6 @@ pends_forced v t s n e k = grind (arith, nat_tests)
 abbrev Marked : NodeValues → Type 0
 Marked v = implies (is_owner v.settings.role) v.mismatch ≡ true
 
-idle_hears : (v : NodeValues) → Forcing v → Speaks v → Rests v → v.state ≡ Idle
-    → sending_ok v.settings.role Idle (meet v.blocked (idle_ports v.settings.role v.settings.rpl)) v.failed no_commands (quiet_unless_owner v) v.mismatch ≡ true
-idle_hears v c s i e = grind arith
-
-idle_rests : (v : NodeValues) → Rests v → v.state ≡ Idle
-    → idle_ok v.settings.role v.settings.rpl Idle (meet v.blocked (idle_ports v.settings.role v.settings.rpl)) v.mismatch ≡ true
-idle_rests v i e = grind arith
-
 to_idle_sound : (v : NodeValues) → Sound v → Marked v → v.state ≡ Pending → Sound (to_idle v.settings.role v)
 to_idle_sound v s m e = grind (arith, nat_tests)
 
@@ -96,9 +88,9 @@ heard_rpl_blocked_keeps v s n m =
       settings = s.settings;
       failed = let f = none_failed v s.failed (rw e refl) in grind arith;
       forced = refl;
-      sending = idle_hears v s.forced s.sending s.idle e;
+      sending = let p = s.forced in let q = s.sending in let r = s.idle in grind arith;
       timers = rw e at s.timers;
-      idle = idle_rests v s.idle e;
+      idle = let r = s.idle in grind arith;
     })
     (λ e. pends v v.timers s n (rw e refl) (pend_ok v s.timers))
     (λ e. pends v v.timers s n (rw e refl) (pend_ok v s.timers))

@@ -5,7 +5,7 @@ use Rattle.node.specs.declared.faults.NodeFault.{NodeFault}
 use Rattle.node.specs.declared.types.NodeValues.{NodeValues}
 use Rattle.node.specs.declared.types.Outcome.{Outcome}
 use Rattle.node.specs.declared.types.Port.{Port}
-use Rattle.node.specs.Calls.{Step, Stepped, port_of, in_step, and_in_step, admitted, step_at, step_in, given_step, taken, turned_away}
+use Rattle.node.specs.Calls.{Call, outcome, Step, Stepped, port_of, in_step, and_in_step, admitted, step_at, step_in, given_step, taken, turned_away}
 use Rattle.node.specs.Faults.{node_refusal}
 
 known : (v : NodeValues) (m : Marks) (p : ℕ) (q : Port) (r : Result Outcome NodeFault) (next : Port → Step)
@@ -37,6 +37,14 @@ module _ {F : Type 0} {marked : F → Marks} {keeps : F → List (List ℕ)} {ol
       in_any : (x : Result (Unit {0}) NodeFault) → given_step v m None x r ≡ step_in v m x next
       in_any (Ok u) = h u
       in_any (Err z) = refl
+
+-- calls without a rule of their own
+module _ {F : Type 0} {marked : F → Marks} {keeps : F → List (List ℕ)} {old new : F} {told : Result (Unit {0}) NodeFault} {after : NodeValues}
+    (v : NodeValues) (m : Marks) where
+  pub plain_at : (k : Port → Call) (p : ℕ) (q : Port) (o : Outcome) → Ok q ≡ port_of p → o ≡ outcome (k q) v
+      → Stepped marked keeps (Some p) (given_step v m (Some p) (in_step v.blocked m.blocked) (Ok o)) old new told after
+      → Stepped marked keeps (Some p) (step_at v m p (admitted v m p) (λ x. taken m (outcome (k x) v))) old new told after
+  plain_at k p q o e f s = at_port v m (Ok o) p q (λ x. taken m (outcome (k x) v)) e (λ _. ap (taken m) f) s
 
 -- a call with a rule of its own
 pub by_rule : (v : NodeValues) (m : Marks) (p : Option ℕ) (t : Bool) (o : Outcome) (e : NodeFault) (u : Unit {0})
