@@ -8,7 +8,7 @@ use Rattle.node.specs.Ports.{port_number}
 
 -- a refusal at the port that the call names, if it names one
 abbrev pub with_port : Option ℕ → Refusal → Refusal
-with_port p r = record { number = r.number; layer = r.layer; station = r.station; port = p; octet = r.octet }
+with_port p r = record r { port = p }
 
 -- each refusal with number, layer and place: the frame's own, 8 and 11 at the call's port, 9 at the first port that differs,
 -- 10, 12 and 13 nowhere

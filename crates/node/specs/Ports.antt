@@ -23,8 +23,8 @@ at m Zero = m.p0
 at m One = m.p1
 
 abbrev pub with_mark : Ports → Port → Bool → Ports
-with_mark m Zero b = record { p0 = b; p1 = m.p1 }
-with_mark m One b = record { p0 = m.p0; p1 = b }
+with_mark m Zero b = record m { p0 = b }
+with_mark m One b = record m { p1 = b }
 
 -- some port is marked
 abbrev pub some : Ports → Bool

@@ -37,19 +37,7 @@ is_no_request SignalFail = false
 is_no_request ForcedSwitch = false
 
 abbrev pub with_mismatch : NodeValues → Bool → NodeValues
-with_mismatch v b = record {
-  settings = v.settings;
-  state = v.state;
-  blocked = v.blocked;
-  failed = v.failed;
-  commands = v.commands;
-  sending = v.sending;
-  timers = v.timers;
-  due = v.due;
-  pair0 = v.pair0;
-  pair1 = v.pair1;
-  mismatch = b;
-}
+with_mismatch v b = record v { mismatch = b }
 
 -- an owner that hears NR,RB of another past guard sets the mismatch mark, also where no row is reached; it stays until restart
 abbrev pub is_foreign_rb : NodeValues → Heard → Bool
@@ -90,8 +78,8 @@ pair_at v Zero = v.pair0
 pair_at v One = v.pair1
 
 abbrev pub with_pair : NodeValues → Port → NodeId × Bool → NodeValues
-with_pair v Zero a = with_pairs v a v.pair1
-with_pair v One a = with_pairs v v.pair0 a
+with_pair v Zero a = record v { pair0 = a }
+with_pair v One a = record v { pair1 = a }
 
 abbrev pub flush_logic : Outcome → Port → Heard → Outcome
 flush_logic o Zero q =

@@ -40,7 +40,7 @@ silent = record { request = None; dnf = false }
 
 -- leaving pending stops WTR and WTB
 abbrev pub stopped : Timers → Timers
-stopped t = record { guard = t.guard; wtr = 0; wtb = 0 }
+stopped t = record t { wtr = 0; wtb = 0 }
 
 -- Await X: a revertive owner starts X
 abbrev pub reverts : Settings → Bool
@@ -52,34 +52,10 @@ awaits g Wtb guard = record { guard = guard; wtr = 0; wtb = cond (reverts g) wtb
 
 -- the values with what a row can change: next state, blocked ports, commands, message, timers
 abbrev pub moved : NodeValues → State → Ports → Commands → Sending → Timers → NodeValues
-moved v s b c m t = record {
-  settings = v.settings;
-  state = s;
-  blocked = b;
-  failed = v.failed;
-  commands = c;
-  sending = m;
-  timers = t;
-  due = v.due;
-  pair0 = v.pair0;
-  pair1 = v.pair1;
-  mismatch = v.mismatch;
-}
+moved v s b c m t = record v { state = s; blocked = b; commands = c; sending = m; timers = t }
 
 abbrev pub with_failed : NodeValues → Ports → NodeValues
-with_failed v f = record {
-  settings = v.settings;
-  state = v.state;
-  blocked = v.blocked;
-  failed = f;
-  commands = v.commands;
-  sending = v.sending;
-  timers = v.timers;
-  due = v.due;
-  pair0 = v.pair0;
-  pair1 = v.pair1;
-  mismatch = v.mismatch;
-}
+with_failed v f = record v { failed = f }
 
 abbrev pub gives : NodeValues → Bool → Outcome
 gives v f = record { values = v; flush = f }

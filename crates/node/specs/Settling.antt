@@ -38,34 +38,10 @@ abbrev pub zero_pair : NodeId × Bool
 zero_pair = (record { octets = 0 ∷ 0 ∷ 0 ∷ 0 ∷ 0 ∷ 0 ∷ [] }, false)
 
 abbrev pub with_due : NodeValues → Due → NodeValues
-with_due v d = record {
-  settings = v.settings;
-  state = v.state;
-  blocked = v.blocked;
-  failed = v.failed;
-  commands = v.commands;
-  sending = v.sending;
-  timers = v.timers;
-  due = d;
-  pair0 = v.pair0;
-  pair1 = v.pair1;
-  mismatch = v.mismatch;
-}
+with_due v d = record v { due = d }
 
 abbrev pub with_pairs : NodeValues → NodeId × Bool → NodeId × Bool → NodeValues
-with_pairs v a b = record {
-  settings = v.settings;
-  state = v.state;
-  blocked = v.blocked;
-  failed = v.failed;
-  commands = v.commands;
-  sending = v.sending;
-  timers = v.timers;
-  due = v.due;
-  pair0 = a;
-  pair1 = b;
-  mismatch = v.mismatch;
-}
+with_pairs v a b = record v { pair0 = a; pair1 = b }
 
 -- from the values before a call, v, and those that its rows gave, w. A call has two rows where Clear, NR or NR,RB leaves
 -- forced switch and local SF follows; the first of them changes no port, so one comparison serves.
@@ -81,21 +57,12 @@ settle v o = gives (settled v o.values) o.flush
 -- ---- a tick lowers each running timer, and the wait after the burst; a delay timer that reaches 0 expires
 
 abbrev pub lowered_due : Due → Due
-lowered_due d = record { burst = d.burst; wait = cond (d.burst == 0) (d.wait - 1) d.wait }
+lowered_due d = record d { wait = cond (d.burst == 0) (d.wait - 1) d.wait }
 
 abbrev pub lowered : NodeValues → NodeValues
-lowered v = record {
-  settings = v.settings;
-  state = v.state;
-  blocked = v.blocked;
-  failed = v.failed;
-  commands = v.commands;
-  sending = v.sending;
+lowered v = record v {
   timers = record { guard = v.timers.guard - 1; wtr = v.timers.wtr - 1; wtb = v.timers.wtb - 1 };
   due = lowered_due v.due;
-  pair0 = v.pair0;
-  pair1 = v.pair1;
-  mismatch = v.mismatch;
 }
 
 abbrev pub expires : Timers → Bool
