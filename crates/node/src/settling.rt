@@ -3,7 +3,7 @@ ghost use Rattle.std.specs.Prelude.{◌≡◌};
 ghost use Rattle.node.specs.Names.{sent_number};
 ghost use Rattle.node.specs.Settling.{fresh_due, frame_taken, is_due, lowered, lowered_due, newly_blocked, restarted, same_sent, settle, started, tick_row};
 
-use crate::ports::{bpr_of, only};
+use crate::ports::{bpr_of, only, within};
 use crate::rows::{NO_COMMANDS, SENDS_NR};
 use crate::starts::{BURST_START, WAIT_START};
 use crate::types::{Delay, Due, NodeValues, Outcome, Settings, State, Timers};
@@ -35,7 +35,7 @@ pub fn sent_number(request: Option<Request>) -> u8
 fn newly_blocked(was: Ports, after: Ports) -> bool
     ensures { result ≡ newly_blocked was after }
 {
-    (after.p0 & !was.p0) | (after.p1 & !was.p1)
+    !within(after, was)
 }
 
 // Three frames, where something is sent.

@@ -40,24 +40,26 @@ pub const KEEPER: At = At::Keeper;
 
 pub const NEIGHBOUR: At = At::Neighbour;
 
-pub(crate) fn settings(at: At) -> Settings {
-    let (role, rpl, revertive) = match at {
-        At::Other => (Role::Other, Port::Zero, true),
-        At::Owner => (Role::Owner, Port::Zero, true),
-        At::Owner1 => (Role::Owner, Port::One, true),
-        At::Keeper => (Role::Owner, Port::Zero, false),
-        At::Neighbour => (Role::Neighbour, Port::One, true),
-    };
-    Settings {
-        id: id(OWN),
-        channel: Channel {
-            ring_id: 1,
-            vid: 100,
-        },
-        mel: 7,
-        role,
-        rpl,
-        revertive,
+impl From<At> for Settings {
+    fn from(at: At) -> Settings {
+        let (role, rpl, revertive) = match at {
+            At::Other => (Role::Other, Port::Zero, true),
+            At::Owner => (Role::Owner, Port::Zero, true),
+            At::Owner1 => (Role::Owner, Port::One, true),
+            At::Keeper => (Role::Owner, Port::Zero, false),
+            At::Neighbour => (Role::Neighbour, Port::One, true),
+        };
+        Settings {
+            id: id(OWN),
+            channel: Channel {
+                ring_id: 1,
+                vid: 100,
+            },
+            mel: 7,
+            role,
+            rpl,
+            revertive,
+        }
     }
 }
 
@@ -200,7 +202,7 @@ impl Station {
     // A refusal is told by its number.
     pub(crate) fn new(at: At) -> Result<Station, u8> {
         let mut fabric = RegisterFabric { word: 0x0234_5678 };
-        let node = Node::set_up(settings(at), &mut fabric).map_err(|fault| fault.number())?;
+        let node = Node::set_up(Settings::from(at), &mut fabric).map_err(|fault| fault.number())?;
         Ok(Station { node, fabric })
     }
 

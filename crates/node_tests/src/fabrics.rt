@@ -2,7 +2,7 @@
 use crate::bench::*;
 use fabric::{Address, Fabric, Side, TableFabric};
 use frame::{Body, Request, worked_frame};
-use node::Node;
+use node::{Node, Settings};
 use std::test::*;
 
 fn address(last: u8) -> Address {
@@ -17,7 +17,7 @@ fn table_of_addresses(rt: HostRuntime) -> Result<(), Fail> {
     let mut table = TableFabric::new();
     assert!(rt; table.learn(address(1), 0).is_ok() && table.learn(address(2), 1).is_ok());
     assert!(rt; table.learn(address(3), 2).is_ok());
-    let Ok(mut node) = Node::set_up(settings(OWNER), &mut table) else {
+    let Ok(mut node) = Node::set_up(Settings::from(OWNER), &mut table) else {
         return Err(Fail::new("refused"));
     };
     assert!(rt; holds(table.is_blocked(0)) && !holds(table.is_blocked(1)));

@@ -2,7 +2,7 @@
 use crate::bench::*;
 use fabric::RegisterFabric;
 use frame::FrameFault;
-use node::{Due, Node, NodeFault, NodeValues};
+use node::{Due, Node, NodeFault, NodeValues, Settings};
 use std::test::*;
 
 // Brought there, then the due frames set so: burst and wait before the call, and after it.
@@ -109,14 +109,9 @@ fn set_up(rt: HostRuntime) -> Result<(), Fail> {
     Ok(())
 }
 
-// A frame request with a buffer of 60 octets, and one with 54.
-fn take(node: &mut Node) -> Result<(), NodeFault> {
-    let mut buffer = [0; 60];
-    node.take_frame(&mut buffer)
-}
-
-fn take_short(node: &mut Node) -> Result<(), NodeFault> {
-    let mut buffer = [0; 54];
+// A frame request with a buffer of this length.
+fn take<const LENGTH: usize>(node: &mut Node) -> Result<(), NodeFault> {
+    let mut buffer = [0; LENGTH];
     node.take_frame(&mut buffer)
 }
 
@@ -124,28 +119,28 @@ fn take_short(node: &mut Node) -> Result<(), NodeFault> {
 #[test]
 fn frames_are_taken(rt: HostRuntime) -> Result<(), Fail> {
     let mut fabric = RegisterFabric { word: 0 };
-    let Ok(mut node) = Node::set_up(settings(OWNER), &mut fabric) else {
+    let Ok(mut node) = Node::set_up(Settings::from(OWNER), &mut fabric) else {
         return Err(Fail::new("refused"));
     };
-    assert!(rt; take(&mut node).is_ok());
-    assert!(rt; take(&mut node).is_ok());
-    assert!(rt; take(&mut node).is_ok());
-    assert_eq!(rt; take(&mut node), Err(NodeFault::NoFrameDue));
+    assert!(rt; take::<60>(&mut node).is_ok());
+    assert!(rt; take::<60>(&mut node).is_ok());
+    assert!(rt; take::<60>(&mut node).is_ok());
+    assert_eq!(rt; take::<60>(&mut node), Err(NodeFault::NoFrameDue));
     for _ in 0..499 {
         assert!(rt; node.tick(&mut fabric).is_ok());
     }
-    assert_eq!(rt; take(&mut node), Err(NodeFault::NoFrameDue));
+    assert_eq!(rt; take::<60>(&mut node), Err(NodeFault::NoFrameDue));
     assert!(rt; node.tick(&mut fabric).is_ok());
     assert_eq!(rt;
-        take_short(&mut node),
+        take::<54>(&mut node),
         Err(NodeFault::Frame(FrameFault::Buffer))
     );
-    assert!(rt; take(&mut node).is_ok());
+    assert!(rt; take::<60>(&mut node).is_ok());
     assert_eq!(rt;
-        take_short(&mut node),
+        take::<54>(&mut node),
         Err(NodeFault::Frame(FrameFault::Buffer))
     );
-    assert_eq!(rt; take(&mut node), Err(NodeFault::NoFrameDue));
+    assert_eq!(rt; take::<60>(&mut node), Err(NodeFault::NoFrameDue));
     Ok(())
 }
 
@@ -153,7 +148,7 @@ fn frames_are_taken(rt: HostRuntime) -> Result<(), Fail> {
 #[test]
 fn a_frame_is_written(rt: HostRuntime) -> Result<(), Fail> {
     let mut fabric = RegisterFabric { word: 0 };
-    let Ok(mut node) = Node::set_up(settings(OWNER), &mut fabric) else {
+    let Ok(mut node) = Node::set_up(Settings::from(OWNER), &mut fabric) else {
         return Err(Fail::new("refused"));
     };
     let mut buffer = [0xAA; 57];

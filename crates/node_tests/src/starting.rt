@@ -120,7 +120,7 @@ const NEW_STATIONS: [(At, Seen); 5] = [
 fn set_up(rt: HostRuntime) -> Result<(), Fail> {
     for (number, (at, seen)) in (1..).zip(&NEW_STATIONS) {
         let mut fabric = RegisterFabric { word: 0xF234_5678 };
-        let Ok(node) = Node::set_up(settings(*at), &mut fabric) else {
+        let Ok(node) = Node::set_up(Settings::from(*at), &mut fabric) else {
             return Err(Fail::new("refused"));
         };
         let station = Station { node, fabric };
@@ -134,14 +134,14 @@ fn on(ring_id: u8, vid: u16, mel: u8) -> Settings {
     Settings {
         channel: Channel { ring_id, vid },
         mel,
-        ..settings(OWNER)
+        ..Settings::from(OWNER)
     }
 }
 
 fn named(octets: [u8; 6]) -> Settings {
     Settings {
         id: NodeId { octets },
-        ..settings(OWNER)
+        ..Settings::from(OWNER)
     }
 }
 
@@ -180,7 +180,7 @@ fn settings_out_of_range(rt: HostRuntime) -> Result<(), Fail> {
     assert_eq!(rt; refused(&rt, named([1, 0, 0, 0, 0, 1]))?, 13);
     let astray = Settings {
         rpl: Port::One,
-        ..settings(OTHER)
+        ..Settings::from(OTHER)
     };
     assert_eq!(rt; refused(&rt, astray)?, 13);
     Ok(())
