@@ -1,5 +1,5 @@
 -- What a call gives, once its port is known and its own rule is asked. Assumes nothing.
-use Rattle.std.proofs.Common.{◌≡◌, ℕ, Bool, true, false, cond, List, Ok, Err, Some, None, Option, Result, IfOk, refl, ap, subst, ◌∙◌}
+use Rattle.std.proofs.Common.{◌≡◌, ℕ, Bool, true, false, cond, List, Ok, Err, Some, None, Option, Result, IfOk, refl, ap, arith, subst, ◌∙◌}
 use Rattle.fabric.specs.Marks.{Marks}
 use Rattle.node.specs.declared.faults.NodeFault.{NodeFault}
 use Rattle.node.specs.declared.types.NodeValues.{NodeValues}
@@ -7,6 +7,7 @@ use Rattle.node.specs.declared.types.Outcome.{Outcome}
 use Rattle.node.specs.declared.types.Port.{Port}
 use Rattle.node.specs.Calls.{Call, outcome, Step, Stepped, port_of, in_step, and_in_step, admitted, step_at, step_in, given_step, taken, turned_away}
 use Rattle.node.specs.Faults.{node_refusal}
+use Rattle.node.specs.Ports.{port_number}
 
 known : (v : NodeValues) (m : Marks) (p : ℕ) (q : Port) (r : Result Outcome NodeFault) (next : Port → Step)
     → ((u : Unit {0}) → given_step v m (Some p) (Ok u) r ≡ next q)
@@ -45,6 +46,10 @@ module _ {F : Type 0} {marked : F → Marks} {keeps : F → List (List ℕ)} {ol
       → Stepped marked keeps (Some p) (given_step v m (Some p) (in_step v.blocked m.blocked) (Ok o)) old new told after
       → Stepped marked keeps (Some p) (step_at v m p (admitted v m p) (λ x. taken m (outcome (k x) v))) old new told after
   plain_at k p q o e f s = at_port v m (Ok o) p q (λ x. taken m (outcome (k x) v)) e (λ _. ap (taken m) f) s
+
+-- the number that names a port is the port's
+pub number_of : (p : ℕ) (q : Port) → Ok q ≡ port_of p → port_number q ≡ p
+number_of p q e = grind arith
 
 -- a call with a rule of its own
 pub by_rule : (v : NodeValues) (m : Marks) (p : Option ℕ) (t : Bool) (o : Outcome) (e : NodeFault) (u : Unit {0})

@@ -2,6 +2,7 @@
 ghost use Rattle.std.specs.Prelude.{◌≡◌, ℕ, true, if◌then◌else◌, Some, None, Ok, Err, IfOk, Option};
 ghost use Rattle.node.specs.Calls.{Leaves, SetUp, Stepped, clear_step, cleared, deliver_step, fail_step, force_step, given_step, in_step, manual_step, message_step, outcome, question, repair_step, restart_step, set_up_marks, status_of, switched, taken, takes_clear, takes_manual, tick_step};
 ghost use Rattle.node.specs.Faults.{told_at};
+ghost use Rattle.node.specs.Ports.{port_number};
 ghost use Rattle.node.specs.Rules.{makes_node, settings_ok};
 ghost use Rattle.node.specs.declared.faults.NodeFault.TheVariants.{NotNow, NothingToClear};
 
@@ -34,13 +35,15 @@ impl NodeValues {
     }
 
     // What MS at a port gives, and Clear: each is refused where it is not taken.
-    fn switched(self, port: u8, at: Port) -> Result<Outcome, NodeFault>
-        ensures { result ≡ (if takes_manual self then Ok (outcome (switched at) self) else Err (NotNow port)) }
+    fn switched(self, port: Port) -> Result<Outcome, NodeFault>
+        ensures { result ≡ (if takes_manual self then Ok (outcome (switched port) self) else Err (NotNow (port_number port))) }
     {
         if self.takes_manual() {
-            Ok(self.settle(self.manual_row(at)))
+            Ok(self.settle(self.manual_row(port)))
         } else {
-            Err(NodeFault::NotNow { port })
+            Err(NodeFault::NotNow {
+                port: u8::from(port),
+            })
         }
     }
 
@@ -119,7 +122,7 @@ impl Node {
         ensures { Stepped F.marks F.kept (Some port) (manual_step self.old.values (F.marks fabric.old) port) fabric.old fabric.new result self.new.values }
     {
         let at = Port::try_from(port)?;
-        self.take(fabric, self.values.switched(port, at))
+        self.take(fabric, self.values.switched(at))
     }
 
     // Clear: ends the commands, or has a waiting owner rest.

@@ -2,50 +2,48 @@
 ghost use Rattle.std.specs.Prelude.{◌≡◌};
 ghost use Rattle.fabric.specs.Marks.{with_blocked};
 ghost use Rattle.node.specs.Calls.{driven, in_step, in_step_at};
+ghost use Rattle.node.specs.Ports.{at, port_number};
 
 use crate::faults::NodeFault;
 use crate::ports::at;
 use crate::types::{NodeValues, Port};
 use fabric::{Fabric, Ports};
 
-fn read_blocked<F: Fabric>(fabric: &F) -> Ports
-    ensures { result ≡ (F.marks fabric.now).blocked }
+fn is_blocked<F: Fabric>(fabric: &F, port: Port) -> bool
+    ensures { result ≡ at (F.marks fabric.now).blocked port }
 {
-    Ports {
-        p0: fabric.is_blocked(0).unwrap_or(false),
-        p1: fabric.is_blocked(1).unwrap_or(false),
-    }
-}
-
-fn in_step_at(own: Ports, fabric: Ports, port: Port) -> Result<(), NodeFault>
-    ensures { result ≡ in_step_at own fabric port }
-{
-    if at(own, port) == at(fabric, port) {
-        Ok(())
-    } else {
-        Err(NodeFault::OutOfStep { port })
-    }
+    fabric.is_blocked(u8::from(port)).unwrap_or(false)
 }
 
 impl NodeValues {
+    fn in_step_at<F: Fabric>(self, fabric: &F, port: Port) -> Result<(), NodeFault>
+        ensures { result ≡ in_step_at self.blocked (F.marks fabric.now).blocked port }
+    {
+        if at(self.blocked, port) == is_blocked(fabric, port) {
+            Ok(())
+        } else {
+            Err(NodeFault::OutOfStep { port })
+        }
+    }
+
     // 9: the fabric's blocked marks are the node's.
     pub(crate) fn in_step<F: Fabric>(self, fabric: &F) -> Result<(), NodeFault>
         ensures { result ≡ in_step self.blocked (F.marks fabric.now).blocked }
     {
-        let blocked = read_blocked(fabric);
-        in_step_at(self.blocked, blocked, Port::Zero)?;
-        in_step_at(self.blocked, blocked, Port::One)
+        self.in_step_at(fabric, Port::Zero)?;
+        self.in_step_at(fabric, Port::One)
     }
 }
 
-fn drive_port<F: Fabric>(fabric: &mut F, port: u8, blocked: bool)
-    ensures marks { F.marks fabric.new ≡ with_blocked (F.marks fabric.old) port blocked }
+fn drive_port<F: Fabric>(fabric: &mut F, port: Port, blocked: bool)
+    ensures marks { F.marks fabric.new ≡ with_blocked (F.marks fabric.old) (port_number port) blocked }
     ensures kept { F.kept fabric.new ≡ F.kept fabric.old }
 {
+    let number = u8::from(port);
     let _ = if blocked {
-        fabric.block(port)
+        fabric.block(number)
     } else {
-        fabric.open(port)
+        fabric.open(number)
     };
 }
 
@@ -53,8 +51,8 @@ pub(crate) fn drive<F: Fabric>(fabric: &mut F, blocked: Ports, flush: bool)
     ensures marks { F.marks fabric.new ≡ driven (F.marks fabric.old) blocked flush }
     ensures kept { F.kept fabric.new ≡ F.kept fabric.old }
 {
-    drive_port(fabric, 0, blocked.p0);
-    drive_port(fabric, 1, blocked.p1);
+    drive_port(fabric, Port::Zero, blocked.p0);
+    drive_port(fabric, Port::One, blocked.p1);
     if flush {
         fabric.flush();
     }

@@ -109,38 +109,33 @@ fn set_up(rt: HostRuntime) -> Result<(), Fail> {
     Ok(())
 }
 
-// A frame request with a buffer of this length.
-fn take<const LENGTH: usize>(node: &mut Node) -> Result<(), NodeFault> {
-    let mut buffer = [0; LENGTH];
-    node.take_frame(&mut buffer)
-}
-
-// Three frames are due at once, then none for 500 ticks; 7 is looked at before 12.
+// Frame requests with buffers of 60 octets and of 54. Three frames are due at once, then none for 500 ticks; 7 is looked at
+// before 12.
 #[test]
 fn frames_are_taken(rt: HostRuntime) -> Result<(), Fail> {
     let mut fabric = RegisterFabric { word: 0 };
     let Ok(mut node) = Node::set_up(Settings::from(OWNER), &mut fabric) else {
         return Err(Fail::new("refused"));
     };
-    assert!(rt; take::<60>(&mut node).is_ok());
-    assert!(rt; take::<60>(&mut node).is_ok());
-    assert!(rt; take::<60>(&mut node).is_ok());
-    assert_eq!(rt; take::<60>(&mut node), Err(NodeFault::NoFrameDue));
+    assert!(rt; node.take_frame(&mut [0; 60]).is_ok());
+    assert!(rt; node.take_frame(&mut [0; 60]).is_ok());
+    assert!(rt; node.take_frame(&mut [0; 60]).is_ok());
+    assert_eq!(rt; node.take_frame(&mut [0; 60]), Err(NodeFault::NoFrameDue));
     for _ in 0..499 {
         assert!(rt; node.tick(&mut fabric).is_ok());
     }
-    assert_eq!(rt; take::<60>(&mut node), Err(NodeFault::NoFrameDue));
+    assert_eq!(rt; node.take_frame(&mut [0; 60]), Err(NodeFault::NoFrameDue));
     assert!(rt; node.tick(&mut fabric).is_ok());
     assert_eq!(rt;
-        take::<54>(&mut node),
+        node.take_frame(&mut [0; 54]),
         Err(NodeFault::Frame(FrameFault::Buffer))
     );
-    assert!(rt; take::<60>(&mut node).is_ok());
+    assert!(rt; node.take_frame(&mut [0; 60]).is_ok());
     assert_eq!(rt;
-        take::<54>(&mut node),
+        node.take_frame(&mut [0; 54]),
         Err(NodeFault::Frame(FrameFault::Buffer))
     );
-    assert_eq!(rt; take::<60>(&mut node), Err(NodeFault::NoFrameDue));
+    assert_eq!(rt; node.take_frame(&mut [0; 60]), Err(NodeFault::NoFrameDue));
     Ok(())
 }
 

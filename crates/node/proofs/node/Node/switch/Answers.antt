@@ -1,11 +1,11 @@
-use Rattle.std.proofs.Common.{cond, Ok, Some, refl, ap, ◌∙◌, rules, ◌≡◌, true}
+use Rattle.std.proofs.Common.{ℕ, cond, Ok, Some, refl, ap, ◌∙◌, rules, ◌≡◌, true}
 use Rattle.node.specs.declared.faults.NodeFault.TheVariants.{NotNow}
 use Rattle.node.specs.declared.types.Outcome.{Outcome}
-use Rattle.node.specs.Calls.{switched, outcome, taken, takes_manual, turned_away, given_step}
+use Rattle.node.specs.Calls.{switched, outcome, taken, takes_manual, turned_away, given_step, port_of, Step}
 use Rattle.node.specs.Faults.{node_refusal}
 use Rattle.node.specs.Rules.{makes_node}
 use Rattle.node.proofs.Meaning.{taken_keeps}
-use Rattle.node.proofs.Steps.{at_port, by_rule, if_taken}
+use Rattle.node.proofs.Steps.{at_port, by_rule, if_taken, number_of}
 use Rattle.node.proofs.node.Node.switch.Goals as goal
 
 pub take-requires : goal.take-requires
@@ -19,5 +19,8 @@ returns g c =
     let v = c.args.self.now.values in
     let m = g.F.Fabric.marks c.args.fabric.now in
     let p = c.args.port in
-    at_port v m _ p c.in_ok-at.at (λ q. cond (takes_manual v) (taken m (outcome (switched q) v)) (turned_away v m (node_refusal (Some p) (NotNow p)))) (search rules)
-    (λ u. ap (given_step v m (Some p) (Ok u)) c.switched.ensures ∙ by_rule v m (Some p) (takes_manual v) _ _ u) (c.take.ensures (Some p))
+    let q = c.in_ok-at.at in
+    let known : Ok q ≡ port_of p = search rules in
+    let gives : ℕ → Step = λ n. cond (takes_manual v) (taken m (outcome (switched q) v)) (turned_away v m (node_refusal (Some p) (NotNow n))) in
+    at_port v m _ p q (λ x. cond (takes_manual v) (taken m (outcome (switched x) v)) (turned_away v m (node_refusal (Some p) (NotNow p)))) known
+    (λ u. ap (given_step v m (Some p) (Ok u)) c.switched.ensures ∙ by_rule v m (Some p) (takes_manual v) _ _ u ∙ ap gives (number_of p q known)) (c.take.ensures (Some p))
