@@ -5,7 +5,7 @@ use Rattle.node.specs.declared.faults.NodeFault.{NodeFault}
 use Rattle.node.specs.declared.types.NodeValues.{NodeValues}
 use Rattle.node.specs.declared.types.Outcome.{Outcome}
 use Rattle.node.specs.declared.types.Port.{Port}
-use Rattle.node.specs.Calls.{Call, outcome, Step, Stepped, port_of, in_step, and_in_step, admitted, step_at, step_in, given_step, taken, turned_away}
+use Rattle.node.specs.Calls.{Step, Stepped, port_of, in_step, and_in_step, admitted, step_at, step_in, given_step, taken, turned_away}
 use Rattle.node.specs.Faults.{node_refusal}
 use Rattle.node.specs.Ports.{port_number}
 
@@ -42,10 +42,10 @@ module _ {F : Type 0} {marked : F → Marks} {keeps : F → List (List ℕ)} {ol
 -- calls without a rule of their own
 module _ {F : Type 0} {marked : F → Marks} {keeps : F → List (List ℕ)} {old new : F} {told : Result (Unit {0}) NodeFault} {after : NodeValues}
     (v : NodeValues) (m : Marks) where
-  pub plain_at : (k : Port → Call) (p : ℕ) (q : Port) (o : Outcome) → Ok q ≡ port_of p → o ≡ outcome (k q) v
+  pub plain_at : (f : Port → Outcome) (p : ℕ) (q : Port) (o : Outcome) → Ok q ≡ port_of p → o ≡ f q
       → Stepped marked keeps (Some p) (given_step v m (Some p) (in_step v.blocked m.blocked) (Ok o)) old new told after
-      → Stepped marked keeps (Some p) (step_at v m p (admitted v m p) (λ x. taken m (outcome (k x) v))) old new told after
-  plain_at k p q o e f s = at_port v m (Ok o) p q (λ x. taken m (outcome (k x) v)) e (λ _. ap (taken m) f) s
+      → Stepped marked keeps (Some p) (step_at v m p (admitted v m p) (λ x. taken m (f x))) old new told after
+  plain_at f p q o e h s = at_port v m (Ok o) p q (λ x. taken m (f x)) e (λ _. ap (taken m) h) s
 
 -- the number that names a port is the port's
 pub number_of : (p : ℕ) (q : Port) → Ok q ≡ port_of p → port_number q ≡ p

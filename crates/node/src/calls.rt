@@ -1,6 +1,6 @@
 // The calls of a node, over any fabric.
 ghost use Rattle.std.specs.Prelude.{◌≡◌, ℕ, true, if◌then◌else◌, Some, None, Ok, Err, IfOk, Option};
-ghost use Rattle.node.specs.Calls.{Leaves, SetUp, Stepped, clear_step, cleared, deliver_step, fail_step, force_step, given_step, in_step, manual_step, message_step, outcome, question, repair_step, restart_step, set_up_marks, status_of, switched, taken, takes_clear, takes_manual, tick_step};
+ghost use Rattle.node.specs.Calls.{Leaves, SetUp, Stepped, admitted, clear_step, cleared, deliver_step, fail_step, force_step, given_step, in_step, manual_step, message_step, outcome, question, repair_step, restart_step, set_up_marks, status_of, step_at, switched, taken, takes_clear, takes_manual, tick_step};
 ghost use Rattle.node.specs.Faults.{told_at};
 ghost use Rattle.node.specs.Ports.{port_number};
 ghost use Rattle.node.specs.Rules.{makes_node, settings_ok};
@@ -93,6 +93,22 @@ impl Node {
         Ok(())
     }
 
+    // The same at a port, of a call that has no rule of its own.
+    fn take_at<F: Fabric, R: FnOnce(NodeValues, Port) -> Outcome>(
+        &mut self,
+        fabric: &mut F,
+        port: u8,
+        row: R,
+    ) -> Result<(), NodeFault>
+        requires callable { (q : Port) → R.pre row self.old.values q }
+        requires lawful { (q : Port) (o : Outcome) → R.post row self.old.values q o → makes_node o.values ≡ true }
+        ensures { (f : Port → Outcome) → ((q : Port) (o : Outcome) → R.post row self.old.values q o → o ≡ f q) → Stepped F.marks F.kept (Some port) (step_at self.old.values (F.marks fabric.old) port (admitted self.old.values (F.marks fabric.old) port) (λ q. taken (F.marks fabric.old) (f q))) fabric.old fabric.new result self.new.values }
+    {
+        let at = Port::try_from(port)?;
+        let o = row(self.values, at);
+        self.take(fabric, Ok(o))
+    }
+
     // A new node on these settings: Start runs, and drives the fabric.
     pub fn set_up<F: Fabric>(settings: Settings, fabric: &mut F) -> Result<Node, NodeFault>
         ensures answer { SetUp settings result }
@@ -112,9 +128,11 @@ impl Node {
     pub fn force<F: Fabric>(&mut self, fabric: &mut F, port: u8) -> Result<(), NodeFault>
         ensures { Stepped F.marks F.kept (Some port) (force_step self.old.values (F.marks fabric.old) port) fabric.old fabric.new result self.new.values }
     {
-        let at = Port::try_from(port)?;
-        let o = self.values.settle(self.values.force_row(at));
-        self.take(fabric, Ok(o))
+        self.take_at(
+            fabric,
+            port,
+            |values, at| values.settle(values.force_row(at)),
+        )
     }
 
     // Manual switch (MS) at a port.
@@ -136,18 +154,22 @@ impl Node {
     pub fn fail<F: Fabric>(&mut self, fabric: &mut F, port: u8) -> Result<(), NodeFault>
         ensures { Stepped F.marks F.kept (Some port) (fail_step self.old.values (F.marks fabric.old) port) fabric.old fabric.new result self.new.values }
     {
-        let at = Port::try_from(port)?;
-        let o = self.values.settle(self.values.fail_row(at));
-        self.take(fabric, Ok(o))
+        self.take_at(
+            fabric,
+            port,
+            |values, at| values.settle(values.fail_row(at)),
+        )
     }
 
     // The repair of a port.
     pub fn repair<F: Fabric>(&mut self, fabric: &mut F, port: u8) -> Result<(), NodeFault>
         ensures { Stepped F.marks F.kept (Some port) (repair_step self.old.values (F.marks fabric.old) port) fabric.old fabric.new result self.new.values }
     {
-        let at = Port::try_from(port)?;
-        let o = self.values.settle(self.values.repair_row(at));
-        self.take(fabric, Ok(o))
+        self.take_at(
+            fabric,
+            port,
+            |values, at| values.settle(values.repair_row(at)),
+        )
     }
 
     // One tick of 10 ms.
@@ -190,9 +212,7 @@ impl Node {
     ) -> Result<(), NodeFault>
         ensures { Stepped F.marks F.kept (Some port) (message_step self.old.values (F.marks fabric.old) port message) fabric.old fabric.new result self.new.values }
     {
-        let at = Port::try_from(port)?;
-        let o = self.values.after_message(at, message);
-        self.take(fabric, Ok(o))
+        self.take_at(fabric, port, |values, at| values.after_message(at, message))
     }
 
     // A frame at a port: the question, then the message.

@@ -1,14 +1,10 @@
-use Rattle.std.proofs.Common.{Some, ap, ◌∙◌, rules}
-use Rattle.node.specs.Calls.{forced}
-use Rattle.node.specs.Settling.{settle}
+use Rattle.std.proofs.Common.{rules}
+use Rattle.node.specs.Calls.{forced, outcome}
 use Rattle.node.proofs.Meaning.{taken_keeps}
-use Rattle.node.proofs.Steps.{plain_at}
 use Rattle.node.proofs.node.Node.force.Goals as goal
 
-pub take-requires : goal.take-requires
-take-requires g c = taken_keeps (forced c.in_ok-at.at) c.args.self.now _ tt (c.settle-o.ensures ∙ ap (settle c.args.self.now.values) c.force_row.ensures)
+pub take_at-requires-clause-lawful : goal.take_at-requires-clause-lawful
+take_at-requires-clause-lawful g c = λ q o p. taken_keeps (forced q) c.args.self.now o tt (search rules)
 
 pub returns : goal.returns
-returns g c =
-    plain_at c.args.self.now.values (g.F.Fabric.marks c.args.fabric.now) forced c.args.port c.in_ok-at.at c.settle-o.result (search rules)
-    (c.settle-o.ensures ∙ ap (settle c.args.self.now.values) c.force_row.ensures) (c.take.ensures (Some c.args.port))
+returns g c = c.take_at.ensures (λ q. outcome (forced q) c.args.self.now.values) (λ q o p. search rules)
