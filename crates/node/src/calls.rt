@@ -77,8 +77,8 @@ impl Node {
         self.write(o.values);
     }
 
-    // What every call that can be refused owes: a node in step takes what the call gives. That is a value, since rows work
-    // on values alone: a closure that gives it later would be no plainer.
+    // What every call that can be refused owes: a node in step takes what the call gives. That is a value here, since a call
+    // with a rule of its own works it out on values alone: a closure that gives it later would be no plainer.
     fn take<F: Fabric>(
         &mut self,
         fabric: &mut F,
@@ -93,7 +93,7 @@ impl Node {
         Ok(())
     }
 
-    // The same at a port, of a call that has no rule of its own.
+    // The same at a port, of a call that any node in step takes: what the row gives, it does.
     fn take_at<F: Fabric, R: FnOnce(NodeValues, Port) -> Outcome>(
         &mut self,
         fabric: &mut F,
