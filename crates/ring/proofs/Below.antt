@@ -1,13 +1,14 @@
 -- Tests at every number below one. Assumes nothing.
-use Rattle.std.proofs.Common.{◌≡◌, ℕ, zero, suc, ◌+◌, ◌<◌, ◌≤◌, Bool, true, false, sym, refl, ap, ◌∙◌, subst, ⊎_elim, add-one, arith}
+use Rattle.std.proofs.Common.{◌≡◌, ℕ, zero, suc, ◌+◌, ◌<◌, Bool, true, false, cond, List, [], ◌∷◌, map, length, get_or, sym, refl, ap, ◌∙◌, subst, ⊎_elim, add-one, arith}
+use Rattle.std.specs.List.{list_all, count_by, AllPass}
+use Rattle.std.proofs.lemmas.Bool.Decides.{same_from_decides}
+use Rattle.std.proofs.lemmas.List.Elements.{All-from_get_or}
+use Rattle.std.proofs.lemmas.List.Sums.{AllPass-from_list_all, list_all-from_AllPass, sum_by-cons}
 use Rattle.std.proofs.lemmas.Bool.{and_parts, and_from, and_left, and_right, cases_eq}
 use Rattle.ring.specs.Row.{all_below, count_below, one_if}
 
 pub below_more : (f : ℕ → Bool) (k : ℕ) → all_below f k ≡ true → f k ≡ true → all_below f (k + 1) ≡ true
 below_more f k h e = rw add-one (and_from (f k) (all_below f k) e h)
-
-pub count_more : (f : ℕ → Bool) (k : ℕ) → count_below f (k + 1) ≡ count_below f k + one_if (f k)
-count_more f k = rw add-one
 
 pub below_stops : (f : ℕ → Bool) (k n : ℕ) → k < n → f k ≡ false → all_below f n ≡ false
 below_stops f k zero l e = absurd (omega arith)
@@ -25,9 +26,28 @@ pub below_from : (f : ℕ → Bool) (n : ℕ) → ((k : ℕ) → k < n → f k �
 below_from f zero h = refl
 below_from f (suc n) h = and_from (f n) (all_below f n) (h n (omega arith)) (below_from f n (λ k l. h k (omega arith)))
 
-pub one_if_le : (b : Bool) → one_if b ≤ 1
-one_if_le true = omega arith
-one_if_le false = omega arith
+-- a test of every place of a list, and how often it passes, as the list's own words say it
+pub list_below : {X : Type 0} (test : X → Bool) (d : X) (xs : List X) → list_all test xs ≡ all_below (λ k. test (get_or xs k d)) (length xs)
+list_below test d xs =
+    let f : ℕ → Bool = λ k. test (get_or xs k d) in
+    same_from_decides {P = AllPass test xs} (list_all test xs) (all_below f (length xs))
+    (AllPass-from_list_all test xs, list_all-from_AllPass test xs)
+    ((λ h. All-from_get_or (λ x. test x ≡ true) xs d (λ k l. below_at f (length xs) h k l)), (λ h. below_from f (length xs) (λ k l. h k d l)))
+
+count_front : (f : ℕ → Bool) (n : ℕ) → count_below f (suc n) ≡ one_if (f 0) + count_below (λ k. f (suc k)) n
+count_front f zero = omega arith
+count_front f (suc n) = omega (arith, count_front f n)
+
+one_if_is : (b : Bool) → cond b 1 0 ≡ one_if b
+one_if_is true = refl
+one_if_is false = refl
+
+pub count_list : {X Y : Type 0} (of : X → Y) (test : Y → Bool) (d : Y) (xs : List X) → count_by (λ x. test (of x)) xs ≡ count_below (λ k. test (get_or (map of xs) k d)) (length xs)
+count_list of test d [] = refl
+count_list of test d (x ∷ xs) =
+    sum_by-cons (λ x. cond (test (of x)) 1 0) x xs
+    ∙ ap (λ n. n + count_by (λ x. test (of x)) xs) (one_if_is (test (of x))) ∙ ap (λ n. one_if (test (of x)) + n) (count_list of test d xs)
+    ∙ sym (count_front (λ k. test (get_or (map of (x ∷ xs)) k d)) (length xs))
 
 -- where a test passes at one number only, two at which it passes are one
 none_below : (f : ℕ → Bool) (n : ℕ) → count_below f n ≡ 0 → (k : ℕ) → k < n → f k ≡ true → ⊥

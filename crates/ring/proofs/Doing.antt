@@ -1,5 +1,5 @@
 -- From what a node's call does to what the ring's call does. Assumes nothing.
-use Rattle.std.proofs.Common.{◌≡◌, ℕ, zero, suc, ◌<◌, Bool, true, false, cond, ltb, List, [], ◌∷◌, length, get_or, set, is_ok, is_err, Some, None, Ok, Err, Option, Result, sym, refl, ap, ◌∙◌, subst, arith, get_or-set_other}
+use Rattle.std.proofs.Common.{◌≡◌, ℕ, zero, suc, ◌<◌, Bool, true, false, cond, ltb, List, [], ◌∷◌, length, get_or, set, is_ok, Some, None, Ok, Err, Option, Result, sym, refl, ap, ◌∙◌, subst, arith, get_or-set_other}
 use Rattle.std.proofs.lemmas.Bool.{true≢false}
 use Rattle.fabric.specs.Marks.{Marks}
 use Rattle.frame.specs.Refusals.{Refusal, Answer, gave, refused}
@@ -14,7 +14,7 @@ use Rattle.ring.specs.declared.faults.RingFault.{RingFault}
 use Rattle.ring.specs.declared.station.Station.{Station}
 use Rattle.ring.specs.Calls.{Ask, force, switch, fail, repair, clear, tick, restart, status, deliver, frame, Call, call, gate, row_gate, names_nobody, usurps, judged, step_of, step_at, answered, moved_if, ring_answer, is_gave, Keeps, Does, Opened, Ticks, last, more}
 use Rattle.ring.specs.declared.faults.RingRefusal.{RingRefusal}
-use Rattle.ring.specs.Faults.{cause_at, placed_at, ring_refusal, told_cause, told_ring}
+use Rattle.ring.specs.Faults.{cause_at, placed_at, ring_refusal, told_cause, told_ring, unplaced}
 use Rattle.ring.specs.Row.{Seat, view, seat, blank}
 use Rattle.ring.proofs.Gates.{gate_shut, row_refusal}
 use Rattle.ring.proofs.Views.{view_set}
@@ -208,20 +208,19 @@ module _ {F : Type 0} (marks : F → Marks) (kept : F → List (List ℕ)) (row 
 -- ---- ticks
 
 -- a tick that is refused is refused again
-pub refused_again : {F : Type 0} (marks : F → Marks) (i n : ℕ) (row row' : List (Station F)) (r : Result (Unit {0}) RingRefusal) → is_err r ≡ true
-    → Does marks (call i tick) row (told_ring r) row' → Ticks marks i (suc n) row (told_ring r) row'
-refused_again marks i n row row' (Ok u) e d = never (sym e)
-refused_again {F} marks i n row row' (Err x) e d =
-    subst (λ q. Ticks marks i (suc n) row (told_ring (Err x)) q) (sym (d.step.refused refl))
-    (again n (subst (λ q. Does marks (call i tick) row (told_ring (Err x)) q) (d.step.refused refl) d))
+pub refused_again : {F : Type 0} (marks : F → Marks) (i n : ℕ) (row row' : List (Station F)) (x : Refusal)
+    → Does marks (call i tick) row (refused x) row' → Ticks marks i (suc n) row (refused x) row'
+refused_again {F} marks i n row row' x d =
+    subst (λ q. Ticks marks i (suc n) row (refused x) q) (sym (d.step.refused refl))
+    (again n (subst (λ q. Does marks (call i tick) row (refused x) q) (d.step.refused refl) d))
   where
-    again : (n : ℕ) → Does marks (call i tick) row (told_ring (Err x)) row → Ticks marks i (suc n) row (told_ring (Err x)) row
+    again : (n : ℕ) → Does marks (call i tick) row (refused x) row → Ticks marks i (suc n) row (refused x) row
     again zero d = last d
     again (suc n) d = more d (again n d)
 
 -- a row that may not be called refuses every call
-pub row_refuses : {F : Type 0} (marks : F → Marks) (kept : F → List (List ℕ)) (row : List (Station F)) (i : ℕ) (a : Ask) (e : RingFault) (x : RingRefusal)
-    → row_gate (view marks row) ≡ Some e → x.station ≡ None → x.port ≡ None → x.cause ≡ e → Done marks kept (call i a) row (refused (ring_refusal x)) row
-row_refuses marks kept row i a e x h s p c =
-    subst (λ r. Done marks kept (call i a) row (refused r) row) (sym (row_refusal (view marks row) e x h s p c))
+pub row_refuses : {F : Type 0} (marks : F → Marks) (kept : F → List (List ℕ)) (row : List (Station F)) (i : ℕ) (a : Ask) (e : RingFault)
+    → row_gate (view marks row) ≡ Some e → Done marks kept (call i a) row (refused (ring_refusal (unplaced e))) row
+row_refuses marks kept row i a e h =
+    subst (λ r. Done marks kept (call i a) row (refused r) row) (sym (row_refusal (view marks row) e h))
     (gate_refuses marks kept row i a e (gate_shut (view marks row) i e h))

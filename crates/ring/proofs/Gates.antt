@@ -1,38 +1,34 @@
 -- When a call of a ring may go on. Assumes nothing.
-use Rattle.std.proofs.Common.{◌≡◌, ℕ, ◌<◌, ◌≤◌, Bool, true, false, cond, ◌&&◌, ltb, leb, List, length, Some, None, Option, refl, ap, ◌∙◌, subst, arith}
-use Rattle.std.proofs.lemmas.Bool.{and_parts, lt-ltb, le-ltb, le-leb, lt-leb, ltb-true}
+use Rattle.std.proofs.Common.{◌≡◌, ℕ, ◌<◌, ◌≤◌, Bool, true, false, cond, ◌&&◌, ltb, List, map, length, Some, None, Option, sym, refl, ap, ◌∙◌, subst, arith}
+use Rattle.std.proofs.lemmas.Bool.{and_parts, lt-ltb, le-ltb, ltb-true}
 use Rattle.fabric.specs.Marks.{Marks}
-use Rattle.frame.specs.Refusals.{Refusal}
 use Rattle.node.specs.Rules.{makes_node}
 use Rattle.ring.specs.declared.faults.RingFault.{RingFault}
 use Rattle.ring.specs.declared.faults.RingFault.TheVariants.{Count, Unlawful, NoStation}
-use Rattle.ring.specs.declared.faults.RingRefusal.{RingRefusal}
 use Rattle.ring.specs.declared.station.Station.{Station}
-use Rattle.ring.specs.Faults.{cause_at, ring_refusal}
+use Rattle.ring.specs.Faults.{cause_at, ring_refusal, unplaced}
 use Rattle.ring.specs.Row.{Seat, view, seat, count_fits, lawful, all_nodes, ring_settings, lawful_row}
 use Rattle.ring.specs.Calls.{gate, row_gate}
-use Rattle.ring.proofs.Views.{view_length}
+use Rattle.ring.proofs.Views.{view_length, settings_view}
 use Rattle.ring.proofs.Below.{below_at}
 
-abbrev checked : ℕ → Bool → Option RingFault
-checked n b = cond (leb 2 n && leb n 255) (cond b None (Some Unlawful)) (Some Count)
+abbrev checked : Bool → Bool → Option RingFault
+checked few together = cond few (cond together None (Some Unlawful)) (Some Count)
 
--- 14 and 15 of a row, by its length
+-- 14 and 15 of a row, as the code asks them
 module _ {F : Type 0} (marks : F → Marks) (row : List (Station F)) where
-  at_length : row_gate (view marks row) ≡ checked (length row) (lawful_row (view marks row))
-  at_length = ap (λ n. checked n (lawful_row (view marks row))) (view_length marks row)
+  at_length : row_gate (view marks row) ≡ checked (count_fits (length row)) (lawful_row (view marks row))
+  at_length = ap (λ n. checked (count_fits n) (lawful_row (view marks row))) (view_length marks row)
 
-  pub row_few : length row < 2 → row_gate (view marks row) ≡ Some Count
-  row_few h = at_length ∙ rw (lt-leb 2 (length row) h)
+  pub row_few : count_fits (length row) ≡ false → row_gate (view marks row) ≡ Some Count
+  row_few h = at_length ∙ ap (λ b. checked b (lawful_row (view marks row))) h
 
-  pub row_many : 255 < length row → row_gate (view marks row) ≡ Some Count
-  row_many h = at_length ∙ rw (le-leb 2 (length row) (omega arith), lt-leb (length row) 255 h)
-
-  pub row_shut : 2 ≤ length row → length row ≤ 255 → lawful_row (view marks row) ≡ false → row_gate (view marks row) ≡ Some Unlawful
-  row_shut h k e = at_length ∙ rw (le-leb 2 (length row) h, le-leb (length row) 255 k, e)
-
-  pub row_open : 2 ≤ length row → length row ≤ 255 → lawful_row (view marks row) ≡ true → row_gate (view marks row) ≡ None
-  row_open h k e = at_length ∙ rw (le-leb 2 (length row) h, le-leb (length row) 255 k, e)
+  pub row_judged : count_fits (length row) ≡ true → (a b : Bool) → a ≡ all_nodes (view marks row) → b ≡ lawful (map (λ s. s.values.settings) row)
+      → row_gate (view marks row) ≡ cond (a && b) None (Some Unlawful)
+  row_judged h a b n l =
+      at_length ∙ ap (λ c. checked c (lawful_row (view marks row))) h
+      ∙ ap (λ c. checked true (all_nodes (view marks row) && c)) (ap lawful (settings_view marks row) ∙ sym l)
+      ∙ ap (λ c. checked true (c && b)) (sym n)
 
 -- 16 comes after them
 abbrev then_station : Option RingFault → Bool → Option RingFault
@@ -76,22 +72,13 @@ open_row ring i h =
     (counts_open ring a.0 b.0, ltb-true i (length ring) (if_none (ltb i (length ring)) None NoStation b.1).0)
 
 -- a refusal by 14 or 15 names no place
-abbrev pub placeless : RingFault → Refusal
-placeless e = record { number = (cause_at None e).number; layer = (cause_at None e).layer; station = None; port = None; octet = (cause_at None e).octet }
-
-nowhere_is : (a b : Bool) (e : RingFault) → cond a (cond b None (Some Unlawful)) (Some Count) ≡ Some e → placeless e ≡ cause_at None e
+nowhere_is : (a b : Bool) (e : RingFault) → cond a (cond b None (Some Unlawful)) (Some Count) ≡ Some e → ring_refusal (unplaced e) ≡ cause_at None e
 nowhere_is true true e h = absurd (let z : ◌≡◌ {A = ℕ} 0 1 = cc in omega arith)
-nowhere_is true false e h = let q : Unlawful ≡ e = cc in subst (λ f. placeless f ≡ cause_at None f) q refl
-nowhere_is false b e h = let q : Count ≡ e = cc in subst (λ f. placeless f ≡ cause_at None f) q refl
+nowhere_is true false e h = let q : Unlawful ≡ e = cc in subst (λ f. ring_refusal (unplaced f) ≡ cause_at None f) q refl
+nowhere_is false b e h = let q : Count ≡ e = cc in subst (λ f. ring_refusal (unplaced f) ≡ cause_at None f) q refl
 
-pub nowhere_refusal : (e : RingFault) (x : RingRefusal) → x.station ≡ None → x.port ≡ None → x.cause ≡ e → ring_refusal x ≡ placeless e
-nowhere_refusal e x s p c =
-    ap (λ (f : RingFault). record { number = (cause_at None f).number; layer = (cause_at None f).layer; station = x.station; port = x.port; octet = (cause_at None f).octet }) c
-    ∙ ap (λ (t : Option ℕ). record { number = (cause_at None e).number; layer = (cause_at None e).layer; station = t; port = x.port; octet = (cause_at None e).octet }) s
-    ∙ ap (λ (t : Option ℕ). record { number = (cause_at None e).number; layer = (cause_at None e).layer; station = None; port = t; octet = (cause_at None e).octet }) p
-
-pub row_refusal : (ring : List Seat) (e : RingFault) (x : RingRefusal) → row_gate ring ≡ Some e → x.station ≡ None → x.port ≡ None → x.cause ≡ e → ring_refusal x ≡ cause_at None e
-row_refusal ring e x h s p c = nowhere_refusal e x s p c ∙ nowhere_is (count_fits (length ring)) (lawful_row ring) e h
+pub row_refusal : (ring : List Seat) (e : RingFault) → row_gate ring ≡ Some e → ring_refusal (unplaced e) ≡ cause_at None e
+row_refusal ring e h = nowhere_is (count_fits (length ring)) (lawful_row ring) e h
 
 -- in a lawful ring each station's values make a node
 pub lawful_node : (ring : List Seat) → lawful_row ring ≡ true → (k : ℕ) → k < length ring → makes_node (seat ring k).values ≡ true

@@ -1,27 +1,31 @@
 -- Lawful settings, read from what has settings. Assumes nothing.
 use Rattle.std.proofs.Common.{◌≡◌, ℕ, ◌<◌, Bool, ◌&&◌, eqb, List, map, length, get_or, sym, ap, ◌∙◌}
 use lib.ListN.{length-map}
+use Rattle.std.specs.List.{count_by}
 use Rattle.std.proofs.lemmas.List.{get_or-map}
 use Rattle.node.specs.declared.types.Settings.{Settings}
 use Rattle.node.specs.Names.{is_owner}
-use Rattle.ring.specs.Row.{setting, lawful, fits_at, new_id, all_below, count_below, joined_to, faces_owner, opposite}
+use Rattle.ring.specs.Row.{setting, lawful, fits_at, new_id, distinct_ids, owners, all_below, count_below, joined_to, placed, stands, same_settings, no_settings}
+use Rattle.ring.proofs.Below.{count_list}
 
 module _ {X : Type 0} (of : X → Settings) where
   pub setting_read : (row : List X) (k : ℕ) (x : X) → k < length row → x ≡ get_or row k x → setting (map of row) k ≡ of x
   setting_read row k x l e = get_or-map of row k x _ l ∙ ap of (sym e)
 
+  pub fits_is : (row : List X) (k j : ℕ) (own first far : Settings) (b : Bool) → first ≡ setting (map of row) 0
+      → far ≡ setting (map of row) j → j ≡ joined_to (length row) k own.rpl → b ≡ (same_settings own first && stands own far own.role)
+      → b ≡ (same_settings own (setting (map of row) 0) && placed (map of row) k own)
+  fits_is row k j own first far b f e h d =
+      let w : far ≡ setting (map of row) (joined_to (length (map of row)) k own.rpl) = e ∙ ap (λ i. setting (map of row) i) (h ∙ ap (λ n. joined_to n k own.rpl) (sym (length-map row of))) in
+      d ∙ ap (λ (u : Settings). same_settings own u && stands own far own.role) f ∙ ap (λ (u : Settings). same_settings own (setting (map of row) 0) && stands own u own.role) w
+
   pub lawful_is : (row : List X) (a b : Bool) (n : ℕ) → a ≡ all_below (new_id (map of row)) (length row) → b ≡ all_below (fits_at (map of row)) (length row)
-      → n ≡ count_below (λ k. is_owner (setting (map of row) k).role) (length row) → (a && (b && eqb n 1)) ≡ lawful (map of row)
+      → n ≡ count_by (λ x. is_owner (of x).role) row → (a && (b && eqb n 1)) ≡ lawful (map of row)
   unfolding lawful
   lawful_is row a b n d e f =
-      let g : length row ≡ length (map of row) = sym (length-map row of) in
-      ap (λ x. x && (b && eqb n 1)) (d ∙ ap (λ m. all_below (new_id (map of row)) m) g)
-      ∙ ap (λ x. all_below (new_id (map of row)) (length (map of row)) && (x && eqb n 1)) (e ∙ ap (λ m. all_below (fits_at (map of row)) m) g)
-      ∙ ap (λ x. all_below (new_id (map of row)) (length (map of row)) && (all_below (fits_at (map of row)) (length (map of row)) && eqb x 1))
-      (f ∙ ap (λ m. count_below (λ k. is_owner (setting (map of row) k).role) m) g)
-
-  pub placed_is : (row : List X) (k j : ℕ) (v far : Settings) (b : Bool) → b ≡ (is_owner far.role && opposite v.rpl far.rpl) → far ≡ setting (map of row) j
-      → j ≡ joined_to (length row) k v.rpl → b ≡ faces_owner (map of row) k v
-  placed_is row k j v far b e f h =
-      let w : far ≡ setting (map of row) (joined_to (length (map of row)) k v.rpl) = f ∙ ap (λ i. setting (map of row) i) (h ∙ ap (λ n. joined_to n k v.rpl) (sym (length-map row of))) in
-      e ∙ ap (λ (u : Settings). is_owner u.role && opposite v.rpl u.rpl) w
+      let ss = map of row in
+      let g : length row ≡ length ss = sym (length-map row of) in
+      let news : a ≡ distinct_ids ss = d ∙ ap (all_below (new_id ss)) g in
+      let fits : b ≡ all_below (fits_at ss) (length ss) = e ∙ ap (all_below (fits_at ss)) g in
+      let one : n ≡ owners ss = f ∙ count_list of (λ s. is_owner s.role) no_settings row ∙ ap (count_below (λ k. is_owner (setting ss k).role)) g in
+      ap (λ x. x && (b && eqb n 1)) news ∙ ap (λ x. distinct_ids ss && (x && eqb n 1)) fits ∙ ap (λ x. distinct_ids ss && (all_below (fits_at ss) (length ss) && eqb x 1)) one

@@ -1,9 +1,10 @@
 -- Stations set up one after the other. Assumes nothing.
-use Rattle.std.proofs.Common.{◌≡◌, ℕ, zero, suc, ◌+◌, ◌<◌, ◌≤◌, Bool, true, false, cond, not, ◌&&◌, eqb, leb, ◌≢◌, List, [], ◌∷◌, length, get_or, set, Some, None, Option, sym, refl, ap, ◌∙◌, subst, ⊎_elim, arith, get_or-set_other, get_or-set_same}
+use Rattle.std.proofs.Common.{◌≡◌, ℕ, zero, suc, ◌+◌, ◌<◌, ◌≤◌, Bool, true, false, cond, not, ◌&&◌, eqb, ltb, ◌≢◌, List, [], ◌∷◌, length, get_or, set, Some, None, Option, sym, refl, ap, ◌∙◌, subst, ⊎_elim, arith, get_or-set_other, get_or-set_same}
 use lib.ListN.{length-map}
 use Rattle.std.specs.Option.{option_map}
 use Rattle.std.proofs.lemmas.List.{get_or-map, get_or_default, same_lists}
-use Rattle.std.proofs.lemmas.Bool.{cases_eq, le-leb, eq-eqb, not-false, true≢false}
+use Rattle.std.specs.List.{position, position_or_len}
+use Rattle.std.proofs.lemmas.Bool.{cases_eq, cases_lt, lt-ltb, le-ltb, eq-eqb, not-false, true≢false}
 use Rattle.fabric.specs.Marks.{Marks}
 use Rattle.frame.specs.Highest.{first_with}
 use Rattle.frame.specs.Refusals.{Refusal, gave, refused}
@@ -17,7 +18,7 @@ use Rattle.ring.specs.declared.faults.RingFault.TheVariants.{Count, Unlawful}
 use Rattle.ring.specs.declared.station.Station.{Station}
 use Rattle.ring.specs.Calls.{Keeps}
 use Rattle.ring.specs.Faults.{cause_at}
-use Rattle.ring.specs.Row.{Seat, seat_of, view, seat, setting, blank, lawful, ring_settings, no_settings}
+use Rattle.ring.specs.Row.{Seat, seat_of, view, seat, setting, blank, lawful, ring_settings, no_settings, count_fits}
 use Rattle.ring.specs.SetUp.{fresh, set_up_refusal, settings_refusal, unless_refused, SetsUp}
 use Rattle.ring.proofs.Views.{seat_read, view_set}
 
@@ -34,10 +35,22 @@ none_passes test [] d h k l = absurd (omega arith)
 none_passes test (x ∷ xs) d h zero l = (test_none test (test x) (first_with test xs) h).0
 none_passes test (x ∷ xs) d h (suc k) l = none_passes test xs d (test_none test (test x) (first_with test xs) h).1 k (omega arith)
 
-pub all_fail : {X : Type 0} (test : X → Bool) (xs : List X) (d : X) → ((k : ℕ) → k < length xs → test (get_or xs k d) ≡ false) → first_with test xs ≡ None
-all_fail test [] d h = refl
-all_fail test (x ∷ xs) d h =
-    ap (λ b. cond b (Some 0) (option_map suc (first_with test xs))) (h 0 (omega arith)) ∙ ap (option_map suc) (all_fail test xs d (λ k l. h (suc k) (omega arith)))
+-- the first that passes, as `position` gives it
+next_place : (p n : ℕ) → cond (ltb (1 + p) (suc n)) (Some (1 + p)) None ≡ option_map suc (cond (ltb p n) (Some p) None)
+next_place p n =
+    ⊎_elim
+    (λ (l : p < n). ap (λ b. cond b (Some (1 + p)) None) (lt-ltb (1 + p) (suc n) (omega arith)) ∙ ap Some (omega arith) ∙ ap (λ b. option_map suc (cond b (Some p) None)) (sym (lt-ltb p n l)))
+    (λ (l : n ≤ p). ap (λ b. cond b (Some (1 + p)) None) (le-ltb (1 + p) (suc n) (omega arith)) ∙ ap (λ b. option_map suc (cond b (Some p) None)) (sym (le-ltb p n l)))
+    (cases_lt p n)
+
+at_front : {X : Type 0} (test : X → Bool) (x : X) (xs : List X) (b : Bool) → test x ≡ b → position test xs ≡ first_with test xs
+    → cond (ltb (cond (not b) (1 + position_or_len test xs) 0) (suc (length xs))) (Some (cond (not b) (1 + position_or_len test xs) 0)) None ≡ cond b (Some 0) (option_map suc (first_with test xs))
+at_front test x xs true e h = ap (λ b. cond b (Some 0) None) (lt-ltb 0 (suc (length xs)) (omega arith))
+at_front test x xs false e h = next_place (position_or_len test xs) (length xs) ∙ ap (option_map suc) h
+
+pub first_is : {X : Type 0} (test : X → Bool) (xs : List X) → position test xs ≡ first_with test xs
+first_is test [] = refl
+first_is test (x ∷ xs) = at_front test x xs (test x) refl (first_is test xs)
 
 pub in_range : (ss : List Settings) → first_with (λ g. not (settings_ok g)) ss ≡ None → (k : ℕ) → k < length ss → settings_ok (setting ss k) ≡ true
 in_range ss h k l = not-false (settings_ok (setting ss k)) (none_passes (λ g. not (settings_ok g)) ss no_settings h k l)
@@ -71,12 +84,6 @@ module _ (old ring ring' : List Seat) (ss : List Settings) (k : ℕ) (g : Settin
 
 -- ---- answers of set-up
 
-abbrev refusal_of : ℕ → ℕ → Option ℕ → Bool → Option Refusal
-refusal_of n m o b = cond ((leb 2 n && leb n 255) && eqb m n) (settings_refusal o b) (Some (cause_at None Count))
-
-passes : (n m : ℕ) (o : Option ℕ) (b : Bool) → 2 ≤ n → n ≤ 255 → m ≡ n → refusal_of n m o b ≡ settings_refusal o b
-passes n m o b h k e = rw (le-leb 2 n h, le-leb n 255 k, eq-eqb m n e)
-
 module _ {F : Type 0} (marks : F → Marks) (kept : F → List (List ℕ)) (ss : List Settings) (row : List (Station F)) where
   pub set_refused : (r : Refusal) → set_up_refusal (length row) ss ≡ Some r → SetsUp marks kept ss row (refused r) row
   set_refused r h = record {
@@ -87,9 +94,11 @@ module _ {F : Type 0} (marks : F → Marks) (kept : F → List (List ℕ)) (ss :
     host = λ k d. refl;
   }
 
-  module _ (h : 2 ≤ length row) (k : length row ≤ 255) (e : length ss ≡ length row) where
-    pub passed : set_up_refusal (length row) ss ≡ settings_refusal (first_with (λ g. not (settings_ok g)) ss) (lawful ss)
-    passed = passes (length row) (length ss) (first_with (λ g. not (settings_ok g)) ss) (lawful ss) h k e
+  module _ (h : count_fits (length row) ≡ true) (e : length ss ≡ length row) where
+    passed : set_up_refusal (length row) ss ≡ settings_refusal (first_with (λ g. not (settings_ok g)) ss) (lawful ss)
+    passed =
+        let rest : Bool → Option Refusal = λ b. cond b (settings_refusal (first_with (λ g. not (settings_ok g)) ss) (lawful ss)) (Some (cause_at None Count)) in
+        ap (λ b. rest (b && eqb (length ss) (length row))) h ∙ ap rest (eq-eqb (length ss) (length row) e)
 
     pub law_refused : first_with (λ g. not (settings_ok g)) ss ≡ None → lawful ss ≡ false → SetsUp marks kept ss row (refused (cause_at None Unlawful)) row
     law_refused o l = set_refused _ (passed ∙ ap (λ x. settings_refusal x (lawful ss)) o ∙ ap (settings_refusal None) l)

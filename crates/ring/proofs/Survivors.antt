@@ -1,5 +1,6 @@
 -- The survivor, found among stations. Assumes nothing.
 use Rattle.std.proofs.Common.{◌≡◌, ℕ, suc, ◌<◌, ◌≤◌, max, Bool, true, false, cond, eqb, List, [], ◌∷◌, map, length, get_or, Some, None, Option, sym, refl, ap, ◌∙◌, subst, ⊎_elim, arith}
+use Rattle.std.specs.Bool.{then_some}
 use Rattle.std.specs.Option.{option_map}
 use Rattle.std.proofs.lemmas.List.{get_or-map}
 use Rattle.std.proofs.lemmas.Bool.{cases_Bool}
@@ -59,11 +60,11 @@ module _ {F : Type 0} (marks : F → Marks) (row : List (Station F)) where
   none_law e j l = absurd (let m : j < length row = subst (λ n. j < n) (view_length marks row) l in omega arith)
 
   module _ (k : ℕ) (x : Station F) (at : x ≡ get_or row k x) (h : HighestAt (λ (s : Station F). nr_rank s.values) row k) (e : Some k ≡ first_highest (λ (s : Station F). nr_rank s.values) row) where
-    pub sending_chosen : sends_nr x.values ≡ true → Some k ≡ survivor_of (ring_values (view marks row))
+    sending_chosen : sends_nr x.values ≡ true → Some k ≡ survivor_of (ring_values (view marks row))
     sending_chosen t =
         sym (chosen (Some k) e ∙ ap (λ b. cond b (Some k) None) (ap sends_nr (found_at k x h.within ∙ ap (λ s. s.values) (sym at)) ∙ t))
 
-    pub silent_chosen : sends_nr x.values ≡ false → None ≡ survivor_of (ring_values (view marks row))
+    silent_chosen : sends_nr x.values ≡ false → None ≡ survivor_of (ring_values (view marks row))
     silent_chosen t =
         sym (chosen (Some k) e ∙ ap (λ b. cond b (Some k) None) (ap sends_nr (found_at k x h.within ∙ ap (λ s. s.values) (sym at)) ∙ t))
 
@@ -77,7 +78,7 @@ module _ {F : Type 0} (marks : F → Marks) (row : List (Station F)) where
     own : (seat (view marks row) k).values ≡ x.values
     own = values_at k x h.within ∙ ap (λ s. s.values) (sym at)
 
-    pub sending_law : sends_nr x.values ≡ true → SurvivorLaw (view marks row) (gave (Some k))
+    sending_law : sends_nr x.values ≡ true → SurvivorLaw (view marks row) (gave (Some k))
     sending_law t = record {
       within = subst (λ n. k < n) (sym (view_length marks row)) h.within;
       sends = ap sends_nr own ∙ t;
@@ -88,10 +89,15 @@ module _ {F : Type 0} (marks : F → Marks) (row : List (Station F)) where
           subst (λ v. id_number (seat (view marks row) j).values.settings.id ≤ id_number v.settings.id) (sym own) (omega arith);
     }
 
-    pub silent_law : sends_nr x.values ≡ false → SurvivorLaw (view marks row) (gave None)
+    silent_law : sends_nr x.values ≡ false → SurvivorLaw (view marks row) (gave None)
     silent_law t j l =
         ⊎_elim
         (λ (s : sends_nr (seat (view marks row) j).values ≡ true).
         absurd (let lower = below j l in let a = rank_sending (seat (view marks row) j).values s in let b = rank_silent x.values t in omega arith))
         (λ (s : sends_nr (seat (view marks row) j).values ≡ false). s)
         (cases_Bool (sends_nr (seat (view marks row) j).values))
+
+    -- as the code answers
+    pub told : (b : Bool) → b ≡ sends_nr x.values → (then_some b k ≡ survivor_of (ring_values (view marks row))) × SurvivorLaw (view marks row) (gave (then_some b k))
+    told true e = (sending_chosen (sym e), sending_law (sym e))
+    told false e = (silent_chosen (sym e), silent_law (sym e))

@@ -1,14 +1,21 @@
 -- Reading and writing a row, as it is seen. Assumes nothing.
-use Rattle.std.proofs.Common.{◌≡◌, ℕ, ◌<◌, List, [], ◌∷◌, map, length, get_or, set, sym, refl, ap, ◌∙◌}
+use Rattle.std.proofs.Common.{◌≡◌, ℕ, ◌<◌, Bool, List, [], ◌∷◌, map, length, get_or, set, sym, refl, ap, ◌∙◌}
 use lib.ListN.{length-map}
 use Rattle.std.proofs.lemmas.List.{get_or-map, map-set}
+use Rattle.std.specs.List.{list_all}
+use Rattle.std.proofs.lemmas.List.Folds.{list_all-map}
 use Rattle.fabric.specs.Marks.{Marks}
 use Rattle.ring.specs.declared.station.Station.{Station}
-use Rattle.ring.specs.Row.{seat_of, view, seat, blank, ring_settings}
+use Rattle.ring.specs.Row.{Seat, seat_of, view, seat, blank, all_below, ring_settings}
+use Rattle.ring.proofs.Below.{list_below}
 
 module _ {F : Type 0} (marks : F → Marks) where
   pub seat_read : (row : List (Station F)) (k : ℕ) (x : Station F) → k < length row → x ≡ get_or row k x → seat (view marks row) k ≡ seat_of marks x
   seat_read row k x l e = get_or-map (seat_of marks) row k x blank l ∙ ap (seat_of marks) (sym e)
+
+  -- a test of every station, read from the row
+  pub each_seat : (test : Seat → Bool) (row : List (Station F)) → list_all (λ s. test (seat_of marks s)) row ≡ all_below (λ k. test (seat (view marks row) k)) (length (view marks row))
+  each_seat test row = sym (list_all-map test (seat_of marks) row) ∙ list_below test blank (view marks row)
 
   pub view_set : (row : List (Station F)) (k : ℕ) (x : Station F) → view marks (set row k x) ≡ set (view marks row) k (seat_of marks x)
   view_set row k x = map-set (seat_of marks) row k x

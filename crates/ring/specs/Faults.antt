@@ -28,6 +28,10 @@ ring_refusal r = record {
   octet = (cause_at None r.cause).octet;
 }
 
+-- a cause that names no place, as `?` hands it out
+abbrev pub unplaced : RingFault → RingRefusal
+unplaced e = record { station = None; port = None; cause = e }
+
 abbrev pub told_ring : {X : Type 0} → Result X RingRefusal → Answer X
 told_ring (Ok x) = gave x
 told_ring (Err e) = refused (ring_refusal e)

@@ -1,6 +1,5 @@
 pub mod Asked
 pub mod Calls
-pub mod Distinct
 pub mod Faults
 pub mod NodeLaws
 pub mod Row

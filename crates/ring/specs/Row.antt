@@ -73,15 +73,18 @@ setting ss k = slice_index_or ss k no_settings
 abbrev pub same_settings : Settings → Settings → Bool
 same_settings s t = s.channel.ring_id == t.channel.ring_id && (s.channel.vid == t.channel.vid && s.mel == t.mel)
 
-abbrev pub faces_owner : List Settings → ℕ → Settings → Bool
-faces_owner ss k v =
-    is_owner (setting ss (joined_to (length ss) k v.rpl)).role && opposite v.rpl (setting ss (joined_to (length ss) k v.rpl)).rpl
+abbrev pub faces_owner : Settings → Settings → Bool
+faces_owner v far = is_owner far.role && opposite v.rpl far.rpl
 
--- a neighbour has the owner's RPL at its own RPL port, so with one owner there is at most one neighbour
-abbrev pub placed : List Settings → ℕ → Settings → Role → Bool
-placed ss k v Other = true
-placed ss k v Owner = true
-placed ss k v Neighbour = faces_owner ss k v
+-- what a station is owed of the one that its RPL port is joined to: a neighbour has the owner's RPL there
+abbrev pub stands : Settings → Settings → Role → Bool
+stands v far Other = true
+stands v far Owner = true
+stands v far Neighbour = faces_owner v far
+
+-- so with one owner there is at most one neighbour
+abbrev pub placed : List Settings → ℕ → Settings → Bool
+placed ss k v = stands v (setting ss (joined_to (length ss) k v.rpl)) v.role
 
 -- no station before k has the ID of station k
 abbrev pub new_id : List Settings → ℕ → Bool
@@ -92,7 +95,7 @@ distinct_ids ss = all_below (new_id ss) (length ss)
 
 -- ring ID, VID and MEL as at the first station, and a neighbour in its place
 abbrev pub fits_at : List Settings → ℕ → Bool
-fits_at ss k = same_settings (setting ss k) (setting ss 0) && placed ss k (setting ss k) (setting ss k).role
+fits_at ss k = same_settings (setting ss k) (setting ss 0) && placed ss k (setting ss k)
 
 abbrev pub owners : List Settings → ℕ
 owners ss = count_below (λ k. is_owner (setting ss k).role) (length ss)

@@ -7,7 +7,7 @@ ghost use Rattle.ring.specs.Row.{Seat, view};
 
 use crate::delivery::hear;
 use crate::faults::{RingFault, RingRefusal};
-use crate::opening::{check, close, enter, held, nowhere};
+use crate::opening::{check, close, enter, held};
 use crate::station::Station;
 use fabric::Fabric;
 use node::Node;
@@ -77,10 +77,7 @@ pub(crate) fn act<F: Fabric + Copy>(
     ensures does { Does F.Fabric.marks (call station (asked asks octets.now)) row.old (told_ring result) row.new }
     ensures host { Keeps F.Fabric.kept row.old row.new }
 {
-    let (mut node, mut fabric) = match enter(row, station) {
-        Ok(at) => at,
-        Err(cause) => return Err(nowhere(cause)),
-    };
+    let (mut node, mut fabric) = enter(row, station)?;
     let answer = ask(row, &mut node, &mut fabric, asks, octets);
     let after = Station {
         values: node.values,
@@ -99,8 +96,6 @@ pub(crate) fn perform<F: Fabric + Copy>(
     ensures does { Does F.Fabric.marks (call station (asked asks octets.now)) row.old (told_ring result) row.new }
     ensures host { Keeps F.Fabric.kept row.old row.new }
 {
-    match check(row) {
-        Ok(()) => act(row, station, asks, octets),
-        Err(cause) => Err(nowhere(cause)),
-    }
+    check(row)?;
+    act(row, station, asks, octets)
 }

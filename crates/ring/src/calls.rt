@@ -6,7 +6,7 @@ ghost use Rattle.ring.specs.Row.{view};
 
 use crate::asking::{StationCall, perform};
 use crate::faults::RingRefusal;
-use crate::opening::{close, held, nowhere, open};
+use crate::opening::{close, held, open};
 use crate::station::Station;
 use fabric::Fabric;
 use node::Status;
@@ -106,10 +106,7 @@ pub fn take_frame<F: Fabric + Copy>(
     ensures host { Keeps F.Fabric.kept row.old row.new }
     ensures left { buffer.new ≡ ring_buffer (view F.Fabric.marks row.old) station buffer.old }
 {
-    let (mut node, fabric) = match open(row, station) {
-        Ok(at) => at,
-        Err(cause) => return Err(nowhere(cause)),
-    };
+    let (mut node, fabric) = open(row, station)?;
     let answer = held(node.take_frame(buffer));
     let after = Station {
         values: node.values,
@@ -123,8 +120,6 @@ pub fn status<F: Fabric + Copy>(row: &[Station<F>], station: usize) -> Result<St
     ensures answer { told_ring result ≡ ring_status (view F.Fabric.marks row.now) station }
     ensures does { Does F.Fabric.marks (call station status) row.now (unit_of (told_ring result)) row.now }
 {
-    match open(row, station) {
-        Ok((node, _)) => Ok(node.status()),
-        Err(cause) => Err(nowhere(cause)),
-    }
+    let (node, _) = open(row, station)?;
+    Ok(node.status())
 }

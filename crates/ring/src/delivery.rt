@@ -1,36 +1,30 @@
 // The delivery of a frame: the station is asked, the ring judges 17 and 18, then the message is taken.
-ghost use Rattle.std.specs.Prelude.{◌≡◌, ℕ, ◌<◌, Bool, not, ◌&&◌, length, Some, ◌==◌};
+ghost use Rattle.std.specs.Prelude.{◌≡◌, Bool, not, ◌&&◌, length, Some, ◌==◌};
 ghost use Rattle.frame.specs.Ids.{id_number};
 ghost use Rattle.node.specs.Calls.{question};
-ghost use Rattle.node.specs.Receiving.{is_rpl_blocked};
+ghost use Rattle.node.specs.Names.{is_owner};
 ghost use Rattle.ring.specs.Calls.{is_owners, is_rb, judged, names_nobody, usurps};
 ghost use Rattle.ring.specs.Faults.{told_cause};
-ghost use Rattle.ring.specs.Row.{Seat, all_below, seat, view};
+ghost use Rattle.ring.specs.Row.{Seat, all_below, view};
 
 use crate::faults::RingFault;
-use crate::lawful::{is_owner, values_at};
+use crate::lawful::is_owner;
 use crate::station::Station;
 use fabric::Fabric;
 use frame::{Body, Message, NodeId, Request};
 use node::Node;
 
-fn has_id<F: Fabric>(row: &[Station<F>], k: usize, node: NodeId) -> bool
-    requires { k < length row.now }
-    ensures { result ≡ (id_number (seat (view F.Fabric.marks row.now) k).values.settings.id == id_number node) }
+fn has_id<F>(station: &Station<F>, node: NodeId) -> bool
+    ensures { result ≡ (id_number station.now.values.settings.id == id_number node) }
 {
-    values_at(row, k).settings.id.number() == node.number()
+    station.values.settings.id.number() == node.number()
 }
 
 // 17: no station has this ID.
 fn names_nobody<F: Fabric>(row: &[Station<F>], node: NodeId) -> bool
     ensures { result ≡ names_nobody (view F.Fabric.marks row.now) node }
 {
-    for k in 0..row.len() {
-        if has_id(row, k, node) {
-            return false;
-        }
-    }
-    true
+    row.iter().all(|station| !has_id(station, node))
 }
 
 fn is_rb(body: Body) -> bool
@@ -42,30 +36,24 @@ fn is_rb(body: Body) -> bool
     }
 }
 
-fn is_owners<F: Fabric>(row: &[Station<F>], k: usize, node: NodeId) -> bool
-    requires { k < length row.now }
-    ensures { result ≡ is_owners (view F.Fabric.marks row.now) node k }
+fn is_owners<F>(station: &Station<F>, node: NodeId) -> bool
+    ensures { result ≡ (id_number station.now.values.settings.id == id_number node && is_owner station.now.values.settings.role) }
 {
-    has_id(row, k, node) & is_owner(values_at(row, k).settings.role)
+    has_id(station, node) && is_owner(station.values.settings.role)
 }
 
 // No station that has this ID is the owner.
 fn is_no_owners<F: Fabric>(row: &[Station<F>], node: NodeId) -> bool
     ensures { result ≡ all_below (λ k. not (is_owners (view F.Fabric.marks row.now) node k)) (length (view F.Fabric.marks row.now)) }
 {
-    for k in 0..row.len() {
-        if is_owners(row, k, node) {
-            return false;
-        }
-    }
-    true
+    row.iter().all(|station| !is_owners(station, node))
 }
 
 // 18: NR,RB that names another than the owner.
 fn usurps<F: Fabric>(row: &[Station<F>], message: Message) -> bool
     ensures { result ≡ usurps (view F.Fabric.marks row.now) message }
 {
-    is_rb(message.body) & is_no_owners(row, message.node)
+    is_rb(message.body) && is_no_owners(row, message.node)
 }
 
 // 8, 9, 1 to 6, 17, 18, then the message.

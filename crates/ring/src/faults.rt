@@ -1,5 +1,6 @@
 // Why a ring refuses a call.
 ghost use Rattle.std.specs.Prelude.{◌≡◌};
+ghost use Rattle.ring.specs.Faults.{unplaced};
 ghost use Rattle.ring.specs.declared.faults.RingFault.TheVariants.{Node};
 
 use node::NodeFault;
@@ -29,4 +30,17 @@ pub struct RingRefusal {
     pub station: Option<usize>,
     pub port: Option<u8>,
     pub cause: RingFault,
+}
+
+// A refusal that names no place.
+impl From<RingFault> for RingRefusal {
+    ghost from_gives = { λ e r. r ≡ unplaced e };
+
+    fn from(cause: RingFault) -> RingRefusal {
+        RingRefusal {
+            station: None,
+            port: None,
+            cause,
+        }
+    }
 }

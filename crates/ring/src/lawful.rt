@@ -1,8 +1,8 @@
 // Which settings are lawful together, and which rows hold nodes.
-ghost use Rattle.std.specs.Prelude.{◌≡◌, ◌+◌, ◌^◌, ◌<◌, ◌≤◌, Bool, ◌&&◌, map, length};
+ghost use Rattle.std.specs.Prelude.{◌≡◌, ◌<◌, ◌≤◌, true, Bool, ◌&&◌, map, length, count_by};
 ghost use Rattle.node.specs.Names.{is_owner};
 ghost use Rattle.node.specs.Rules.{makes_node};
-ghost use Rattle.ring.specs.Row.{all_below, all_nodes, count_below, distinct_ids, fits_at, joined_to, lawful, lawful_row, one_if, opposite, placed, ring_settings, same_settings, seat, setting, view};
+ghost use Rattle.ring.specs.Row.{all_below, all_nodes, count_fits, fits_at, joined_to, lawful, opposite, placed, same_settings, setting, stands, view};
 
 use crate::distinct::are_distinct;
 use crate::settled::Settled;
@@ -10,11 +10,12 @@ use crate::station::Station;
 use fabric::Fabric;
 use node::{Node, NodeValues, Port, Role, Settings};
 
-pub(crate) fn values_at<F: Fabric>(row: &[Station<F>], k: usize) -> NodeValues
-    requires { k < length row.now }
-    ensures { result ≡ (seat (view F.Fabric.marks row.now) k).values }
+// So many stations make a ring.
+pub(crate) fn count_fits(stations: usize) -> bool
+    ensures value { result ≡ count_fits stations }
+    ensures few { result ≡ true → stations ≤ 255 }
 {
-    row[k].values
+    (2..=255).contains(&stations)
 }
 
 fn makes_node(values: NodeValues) -> bool
@@ -26,31 +27,7 @@ fn makes_node(values: NodeValues) -> bool
 pub(crate) fn are_nodes<F: Fabric>(row: &[Station<F>]) -> bool
     ensures { result ≡ all_nodes (view F.Fabric.marks row.now) }
 {
-    for k in 0..row.len() {
-        if !makes_node(values_at(row, k)) {
-            return false;
-        }
-    }
-    true
-}
-
-pub(crate) fn setting_at<S: Settled>(row: &[S], k: usize) -> Settings
-    requires { k < length row.now }
-    ensures { result ≡ setting (map S.Settled.settled row.now) k }
-{
-    row[k].settings()
-}
-
-// Port 1 of each joins port 0 of the next, the last joins the first.
-fn joined_to(n: usize, k: usize, port: Port) -> usize
-    requires { k < n }
-    ensures value { result ≡ joined_to n k port }
-    ensures bound { result < n }
-{
-    match port {
-        Port::Zero => if k == 0 { n - 1 } else { k - 1 },
-        Port::One => if k + 1 == n { 0 } else { k + 1 },
-    }
+    row.iter().all(|station| makes_node(station.values))
 }
 
 pub(crate) fn is_owner(role: Role) -> bool
@@ -68,66 +45,59 @@ fn opposite(a: Port, b: Port) -> bool
     }
 }
 
-fn faces(own: Settings, far: Settings) -> bool
-    ensures { result ≡ (is_owner far.role && opposite own.rpl far.rpl) }
-{
-    is_owner(far.role) && opposite(own.rpl, far.rpl)
-}
-
-fn is_placed<S: Settled>(row: &[S], k: usize, own: Settings) -> bool
-    requires { k < length row.now }
-    ensures { result ≡ placed (map S.Settled.settled row.now) k own own.role }
+fn stands(own: Settings, far: Settings) -> bool
+    ensures { result ≡ stands own far own.role }
 {
     match own.role {
         Role::Other | Role::Owner => true,
-        Role::Neighbour => {
-            let far = setting_at(row, joined_to(row.len(), k, own.rpl));
-            faces(own, far)
-        }
+        Role::Neighbour => is_owner(far.role) && opposite(own.rpl, far.rpl),
     }
 }
 
 fn same_settings(a: Settings, b: Settings) -> bool
     ensures { result ≡ same_settings a b }
 {
-    (a.channel.ring_id == b.channel.ring_id) & ((a.channel.vid == b.channel.vid) & (a.mel == b.mel))
+    a.channel.ring_id == b.channel.ring_id && a.channel.vid == b.channel.vid && a.mel == b.mel
 }
 
-fn fits_at<S: Settled>(row: &[S], k: usize) -> bool
-    requires { k < length row.now }
-    ensures { result ≡ fits_at (map S.Settled.settled row.now) k }
+// Port 1 of each joins port 0 of the next, the last joins the first.
+fn joined_to(n: usize, k: usize, port: Port) -> usize
+    requires { k < n }
+    ensures value { result ≡ joined_to n k port }
+    ensures bound { result < n }
 {
-    let own = setting_at(row, k);
-    same_settings(own, setting_at(row, 0)) && is_placed(row, k, own)
+    match port {
+        Port::Zero => if k == 0 { n - 1 } else { k - 1 },
+        Port::One => if k + 1 == n { 0 } else { k + 1 },
+    }
+}
+
+fn fits<S: Settled>(row: &[S], k: usize, own: Settings) -> bool
+    requires { k < length row.now }
+    ensures { result ≡ (same_settings own (setting (map S.Settled.settled row.now) 0) && placed (map S.Settled.settled row.now) k own) }
+{
+    let first = row[0].settings();
+    let far = row[joined_to(row.len(), k, own.rpl)].settings();
+    same_settings(own, first) && stands(own, far)
 }
 
 fn each_fits<S: Settled>(row: &[S]) -> bool
     ensures { result ≡ all_below (fits_at (map S.Settled.settled row.now)) (length row.now) }
 {
-    for k in 0..row.len() {
-        if !fits_at(row, k) {
+    for (k, station) in row.iter().enumerate() {
+        if !fits(row, k, station.settings()) {
             return false;
         }
     }
     true
 }
 
-fn one_more_if(n: usize, b: bool) -> usize
-    requires { n < 2 ^ 63 }
-    ensures { result ≡ n + one_if b }
-{
-    if b { n + 1 } else { n }
-}
-
 fn count_owners<S: Settled>(row: &[S]) -> usize
-    requires { length row.now ≤ 255 }
-    ensures { result ≡ count_below (λ k. is_owner (setting (map S.Settled.settled row.now) k).role) (length row.now) }
+    ensures { result ≡ count_by (λ s. is_owner (S.Settled.settled s).role) row.now }
 {
-    let mut owners: usize = 0;
-    for k in 0..row.len() {
-        owners = one_more_if(owners, is_owner(setting_at(row, k).role));
-    }
-    owners
+    row.iter()
+        .filter(|station| is_owner(station.settings().role))
+        .count()
 }
 
 // Equal ring ID, VID and MEL, distinct IDs, one owner, a neighbour only across its RPL.
@@ -135,5 +105,5 @@ pub(crate) fn are_lawful<S: Settled>(row: &[S]) -> bool
     requires { length row.now ≤ 255 }
     ensures { result ≡ lawful (map S.Settled.settled row.now) }
 {
-    are_distinct(row) & (each_fits(row) & (count_owners(row) == 1))
+    are_distinct(row) && each_fits(row) && count_owners(row) == 1
 }

@@ -1,33 +1,26 @@
 // Where a call enters a row and leaves it.
-ghost use Rattle.std.specs.Prelude.{◌≡◌, ℕ, ◌<◌, ◌≤◌, Bool, ◌&&◌, length, is_ok, if◌then◌else◌, Some, None, Option, IfOk, slice_index_or, slice_set};
+ghost use Rattle.std.specs.Prelude.{◌≡◌, ℕ, ◌<◌, length, is_ok, if◌then◌else◌, Some, None, Option, IfOk, slice_index_or, slice_set};
 ghost use Rattle.std.specs.Result as Results;
 ghost use Rattle.frame.specs.Refusals.{refused};
 ghost use Rattle.node.specs.Faults.{told_at};
 ghost use Rattle.ring.specs.Calls.{Opened, gate, row_gate};
 ghost use Rattle.ring.specs.Faults.{cause_at, placed_at, ring_refusal, told_cause, told_ring, with_station};
-ghost use Rattle.ring.specs.Row.{lawful_row, view};
+ghost use Rattle.ring.specs.Row.{view};
 
 use crate::faults::{RingFault, RingRefusal};
-use crate::lawful::{are_lawful, are_nodes};
+use crate::lawful::{are_lawful, are_nodes, count_fits};
 use crate::station::Station;
 use fabric::Fabric;
 use node::{Node, NodeFault};
-
-fn is_lawful_row<F: Fabric>(row: &[Station<F>]) -> bool
-    requires { length row.now ≤ 255 }
-    ensures { result ≡ lawful_row (view F.Fabric.marks row.now) }
-{
-    are_nodes(row) & are_lawful(row)
-}
 
 // 14, 15.
 pub(crate) fn check<F: Fabric>(row: &[Station<F>]) -> Result<(), RingFault>
     ensures { Results.MatchResult result (λ _. row_gate (view F.Fabric.marks row.now) ≡ None) (λ e. row_gate (view F.Fabric.marks row.now) ≡ Some e) }
 {
-    if row.len() < 2 || row.len() > 255 {
+    if !count_fits(row.len()) {
         return Err(RingFault::Count);
     }
-    if !is_lawful_row(row) {
+    if !are_nodes(row) || !are_lawful(row) {
         return Err(RingFault::Unlawful);
     }
     Ok(())
@@ -60,23 +53,8 @@ pub(crate) fn open<F: Fabric + Copy>(
     ensures answer { Results.MatchResult result (λ x. Opened F.Fabric.marks row.now station x.0.values x.1) (λ e. gate (view F.Fabric.marks row.now) station ≡ Some e) }
     ensures own { IfOk result (λ x. (d : Station F) → (slice_index_or row.now station d).fabric ≡ x.1) }
 {
-    match check(row) {
-        Ok(()) => enter(row, station),
-        Err(cause) => Err(cause),
-    }
-}
-
-// A refusal that names no place.
-pub(crate) fn nowhere(cause: RingFault) -> RingRefusal
-    ensures station { result.station ≡ None }
-    ensures port { result.port ≡ None }
-    ensures cause { result.cause ≡ cause }
-{
-    RingRefusal {
-        station: None,
-        port: None,
-        cause,
-    }
+    check(row)?;
+    enter(row, station)
 }
 
 // A node's answer as a ring's: its refusal is held whole.

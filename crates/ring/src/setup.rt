@@ -9,8 +9,7 @@ ghost use Rattle.ring.specs.Runs.{Law};
 ghost use Rattle.ring.specs.SetUp.{SetsUp, fresh};
 
 use crate::faults::{RingFault, RingRefusal};
-use crate::lawful::are_lawful;
-use crate::opening::nowhere;
+use crate::lawful::{are_lawful, count_fits};
 use crate::resting::node_laws;
 use crate::station::Station;
 use fabric::Fabric;
@@ -20,12 +19,7 @@ use node::{Node, NodeFault, Settings, settings_ok};
 fn first_at_fault(settings: &[Settings]) -> Option<usize>
     ensures { result ≡ first_with (λ g. not (settings_ok g)) settings.now }
 {
-    for k in 0..settings.len() {
-        if !settings_ok(settings[k]) {
-            return Some(k);
-        }
-    }
-    None
+    settings.iter().position(|own| !settings_ok(*own))
 }
 
 fn start_one<F: Fabric + Copy>(row: &mut [Station<F>], k: usize, settings: Settings)
@@ -67,8 +61,8 @@ pub fn set_up<F: Fabric + Copy>(
     ensures law { OnOk result (Law F.Fabric.marks row.new) }
 {
     node_laws();
-    if row.len() < 2 || row.len() > 255 || settings.len() != row.len() {
-        return Err(nowhere(RingFault::Count));
+    if !count_fits(row.len()) || settings.len() != row.len() {
+        return Err(RingFault::Count.into());
     }
     if let Some(station) = first_at_fault(settings) {
         return Err(RingRefusal {
@@ -78,7 +72,7 @@ pub fn set_up<F: Fabric + Copy>(
         });
     }
     if !are_lawful(settings) {
-        return Err(nowhere(RingFault::Unlawful));
+        return Err(RingFault::Unlawful.into());
     }
     start_all(row, settings);
     Ok(())

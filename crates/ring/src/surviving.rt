@@ -1,13 +1,12 @@
 // The survivor question: the station with the highest ID among those that send NR.
-ghost use Rattle.std.specs.Prelude.{◌≡◌, ◌<◌, length, None};
+ghost use Rattle.std.specs.Prelude.{◌≡◌};
 ghost use Rattle.frame.specs.Refusals.{gave};
-ghost use Rattle.ring.specs.Calls.{row_gate};
 ghost use Rattle.ring.specs.Faults.{told_ring};
 ghost use Rattle.ring.specs.Row.{view};
 ghost use Rattle.ring.specs.Survivor.{SurvivorLaw, nr_rank, ring_survivor, sends_nr, survivor_of, ring_values};
 
 use crate::faults::RingRefusal;
-use crate::opening::{check, nowhere};
+use crate::opening::check;
 use crate::station::Station;
 use fabric::Fabric;
 use frame::{Ranked, Request, highest};
@@ -36,20 +35,7 @@ fn find_survivor<F: Fabric>(row: &[Station<F>]) -> Option<usize>
     ensures law { SurvivorLaw (view F.Fabric.marks row.now) (gave result) }
 {
     let station = highest(row)?;
-    if sends_nr(row[station].values) {
-        Some(station)
-    } else {
-        None
-    }
-}
-
-// The same in a row that was checked.
-pub(crate) fn act_survivor<F: Fabric>(row: &[Station<F>]) -> Result<Option<usize>, RingRefusal>
-    requires { row_gate (view F.Fabric.marks row.now) ≡ None }
-    ensures answer { told_ring result ≡ ring_survivor (view F.Fabric.marks row.now) }
-    ensures law { SurvivorLaw (view F.Fabric.marks row.now) (told_ring result) }
-{
-    Ok(find_survivor(row))
+    sends_nr(row[station].values).then_some(station)
 }
 
 // The number of the station with the highest Node ID among those that send NR, or none.
@@ -57,8 +43,6 @@ pub fn survivor<F: Fabric>(row: &[Station<F>]) -> Result<Option<usize>, RingRefu
     ensures answer { told_ring result ≡ ring_survivor (view F.Fabric.marks row.now) }
     ensures law { SurvivorLaw (view F.Fabric.marks row.now) (told_ring result) }
 {
-    match check(row) {
-        Ok(()) => act_survivor(row),
-        Err(cause) => Err(nowhere(cause)),
-    }
+    check(row)?;
+    Ok(find_survivor(row))
 }

@@ -5,7 +5,7 @@ ghost use Rattle.ring.specs.Faults.{told_ring};
 
 use crate::asking::{StationCall, act};
 use crate::faults::RingRefusal;
-use crate::opening::{check, nowhere};
+use crate::opening::check;
 use crate::resting::node_laws;
 use crate::station::Station;
 use fabric::Fabric;
@@ -24,14 +24,9 @@ pub fn ticks<F: Fabric + Copy>(
     if count == 0 {
         return Ok(());
     }
-    if let Err(cause) = check(row) {
-        return Err(nowhere(cause));
-    }
+    check(row)?;
     for _ in 1..count {
-        let answer = act(row, station, StationCall::Tick, &[]);
-        if answer.is_err() {
-            return answer;
-        }
+        act(row, station, StationCall::Tick, &[])?;
     }
     act(row, station, StationCall::Tick, &[])
 }

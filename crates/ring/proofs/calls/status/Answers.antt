@@ -6,9 +6,9 @@ use Rattle.ring.specs.Row.{view, seat}
 use Rattle.ring.proofs.Doing.{looks}
 use Rattle.ring.proofs.calls.status.Goals as goal
 
-pub returns-in-Ok : goal.returns-in-Ok
-returns-in-Ok g c =
-    let o = c.in-Ok.ensures.answer in
+pub returns : goal.returns
+returns g c =
+    let o = c.in_ok-node.ensures.answer in
     let ring = view g.F.Fabric.marks c.args.row.now in
     record {
       answer = ap gave (c.status.ensures ∙ ap status_of (sym o.values)) ∙ sym (ap (λ e. status_if e (status_of (seat ring c.args.station).values)) o.passes);

@@ -7,12 +7,12 @@ use Rattle.ring.proofs.calls.take_frame.Goals as goal
 
 pub returns : goal.returns
 returns g c =
-    let o = c.in-Ok.ensures.answer in
+    let o = c.in_ok-node.ensures.answer in
     let ring = view g.F.Fabric.marks c.args.row.now in
     let b = c.args.buffer.now in
     let d =
-    closes g.F.Fabric.marks g.F.Fabric.kept c.args.row.now c.args.station (frame b) c.in-Ok.at.0.values c.in-Ok.at.1 o c.in-Ok.ensures.own
-    c.take_frame.new.self.values c.in-Ok.at.1 refl None c.held-answer.result c.close.result c.close.new.row
+    closes g.F.Fabric.marks g.F.Fabric.kept c.args.row.now c.args.station (frame b) c.in_ok-node.node.values c.in_ok-node.fabric o c.in_ok-node.ensures.own
+    c.take_frame.new.self.values c.in_ok-node.fabric refl None c.held-answer.result c.close.result c.close.new.row
     (c.held-answer.ensures None ∙ c.take_frame.ensures.answer) c.take_frame.ensures.values refl c.close.ensures.answer c.close.ensures.row in
     record {
       does = d.does;

@@ -1,19 +1,14 @@
-use Rattle.std.proofs.Common.{◌≡◌, not, eqb, length, sym, ap, ◌∙◌, arith}
+use Rattle.std.proofs.Common.{not, eqb, ◌∙◌, rules}
+use Rattle.std.proofs.lemmas.Iterator.{YieldsList-from_slice}
+use Rattle.std.proofs.lemmas.Iterator.Search.{all_from_yields_List}
 use Rattle.frame.specs.Ids.{id_number}
-use Rattle.ring.specs.Row.{all_below, view, seat}
-use Rattle.ring.proofs.Below.{below_more, below_stops}
-use Rattle.ring.proofs.Views.{view_length}
+use Rattle.ring.proofs.Views.{each_seat}
 use Rattle.ring.proofs.delivery.names_nobody.Goals as goal
-
-pub returns-then-has_id : goal.returns-then-has_id
-returns-then-has_id g c =
-    sym (ap (all_below (λ k. not (eqb (id_number (seat (view g.F.Fabric.marks c.args.row.now) k).values.settings.id) (id_number c.args.node)))) (view_length g.F.Fabric.marks c.args.row.now)
-    ∙ below_stops (λ k. not (eqb (id_number (seat (view g.F.Fabric.marks c.args.row.now) k).values.settings.id) (id_number c.args.node))) c.loop-k.k _ c.loop-k-test.true (ap not (sym c.if-has_id.ensures)))
-
-pub loop-k-preserved : goal.loop-k-preserved
-loop-k-preserved g c = below_more (λ k. not (eqb (id_number (seat (view g.F.Fabric.marks c.args.row.now) k).values.settings.id) (id_number c.args.node))) c.loop-k.k c.loop-k.invariant (ap not (sym c.if-has_id.ensures))
 
 pub returns : goal.returns
 returns g c =
-    let e : c.loop-k.k ≡ length c.args.row.now = omega arith in
-    sym (ap (all_below (λ k. not (eqb (id_number (seat (view g.F.Fabric.marks c.args.row.now) k).values.settings.id) (id_number c.args.node)))) (view_length g.F.Fabric.marks c.args.row.now ∙ sym e) ∙ c.loop-k.invariant)
+    let i = c.iter.ensures in
+    let a = c.all.ensures in
+    all_from_yields_List (λ s. not (eqb (id_number s.values.settings.id) (id_number c.args.node))) _ _ c.all.result c.all.ensures.ran
+    (YieldsList-from_slice c.args.row.now c.iter.ensures.rest) (λ x b q k. search rules)
+    ∙ each_seat g.F.Fabric.marks (λ s. not (eqb (id_number s.values.settings.id) (id_number c.args.node))) c.args.row.now

@@ -1,10 +1,9 @@
 use Rattle.std.proofs.Common.{sym, ap, ◌∙◌, subst, arith}
 use Rattle.std.proofs.lemmas.List.{map-id}
 use Rattle.frame.specs.Refusals.{refused}
-use Rattle.ring.specs.declared.faults.RingFault.TheVariants.{Unlawful}
+use Rattle.ring.specs.Faults.{ring_refusal}
 use Rattle.ring.specs.Row.{lawful}
 use Rattle.ring.specs.SetUp.{SetsUp}
-use Rattle.ring.proofs.Gates.{nowhere_refusal}
 use Rattle.ring.proofs.Law.{law}
 use Rattle.ring.proofs.Starting.{in_range, law_refused, set_done}
 use Rattle.ring.proofs.setup.set_up.Goals as goal
@@ -13,12 +12,9 @@ pub returns-then-not-are_lawful : goal.returns-then-not-are_lawful
 returns-then-not-are_lawful g c =
     let ss = c.args.settings.now in
     let row = c.args.row.now in
-    let x = c.nowhere-then-not-are_lawful in
     record {
-      does =
-          subst (λ r. SetsUp g.F.Fabric.marks g.F.Fabric.kept ss row (refused r) row)
-          (sym (nowhere_refusal Unlawful x.result x.ensures.station x.ensures.port x.ensures.cause))
-          (law_refused g.F.Fabric.marks g.F.Fabric.kept ss row (omega arith) (omega arith) (omega arith) (sym c.in_default.ensures) (sym (c.if-not-are_lawful.ensures ∙ ap lawful (map-id ss))));
+      does = subst (λ r. SetsUp g.F.Fabric.marks g.F.Fabric.kept ss row (refused (ring_refusal r)) row) (sym c.into-then-not-are_lawful.ensures)
+          (law_refused g.F.Fabric.marks g.F.Fabric.kept ss row (sym c.if-not-count_fits.ensures.value) (omega arith) (sym c.in_default.ensures) (sym (c.if-not-are_lawful.ensures ∙ ap lawful (map-id ss))));
       law = tt;
     }
 
@@ -34,7 +30,7 @@ returns g c =
     let ss = c.args.settings.now in
     let o = sym c.in_default.ensures in
     record {
-      does = set_done marks g.F.Fabric.kept ss c.args.row.now (omega arith) (omega arith) (omega arith) c.start_all.new.row o
+      does = set_done marks g.F.Fabric.kept ss c.args.row.now (sym c.if-not-count_fits.ensures.value) (omega arith) c.start_all.new.row o
           (sym (c.if-not-are_lawful.ensures ∙ ap lawful (map-id ss))) c.start_all.auto.row c.start_all.ensures.seen c.start_all.ensures.host;
       law = law c.node_laws.ensures marks ss c.args.row.now c.start_all.new.row c.start_all.auto.row
           (λ k l. in_range ss o k (omega arith)) c.start_all.ensures.seen;

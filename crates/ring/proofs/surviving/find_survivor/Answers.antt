@@ -2,7 +2,7 @@ use Rattle.std.proofs.Common.{sym, ap, ◌∙◌, subst}
 use Rattle.frame.specs.Refusals.{gave}
 use Rattle.ring.specs.Row.{view}
 use Rattle.ring.specs.Survivor.{SurvivorLaw, sends_nr}
-use Rattle.ring.proofs.Survivors.{none_chosen, none_law, sending_chosen, silent_chosen, sending_law, silent_law}
+use Rattle.ring.proofs.Survivors.{none_chosen, none_law, told}
 use Rattle.ring.proofs.surviving.find_survivor.Goals as goal
 
 pub returns-in_err-station : goal.returns-in_err-station
@@ -11,20 +11,12 @@ returns-in_err-station g c = record {
   law = subst (λ o. SurvivorLaw (view g.F.Fabric.marks c.args.row.now) (gave o)) (sym c.from_residual.ensures) (none_law g.F.Fabric.marks c.args.row.now c.in_err-station.ensures.law);
 }
 
-pub returns-then-sends_nr : goal.returns-then-sends_nr
-returns-then-sends_nr g c =
+pub returns : goal.returns
+returns g c =
     let h = c.in_ok-station.ensures in
-    let t = ap (λ s. sends_nr s.values) c.index-row-station.is ∙ sym c.if-sends_nr.ensures in
+    let at = c.index-row-station in
+    let t = told g.F.Fabric.marks c.args.row.now c.in_ok-station.station at.result at.is h.law h.value c.sends_nr.result (c.sends_nr.ensures ∙ sym (ap (λ s. sends_nr s.values) at.is)) in
     record {
-      value = sending_chosen g.F.Fabric.marks c.args.row.now c.in_ok-station.station c.index-row-station.result c.index-row-station.is h.law h.value t;
-      law = sending_law g.F.Fabric.marks c.args.row.now c.in_ok-station.station c.index-row-station.result c.index-row-station.is h.law h.value t;
-    }
-
-pub returns-else-sends_nr : goal.returns-else-sends_nr
-returns-else-sends_nr g c =
-    let h = c.in_ok-station.ensures in
-    let t = ap (λ s. sends_nr s.values) c.index-row-station.is ∙ sym c.if-sends_nr.ensures in
-    record {
-      value = silent_chosen g.F.Fabric.marks c.args.row.now c.in_ok-station.station c.index-row-station.result c.index-row-station.is h.law h.value t;
-      law = silent_law g.F.Fabric.marks c.args.row.now c.in_ok-station.station c.index-row-station.result c.index-row-station.is h.law h.value t;
+      value = c.then_some.ensures ∙ t.0;
+      law = subst (λ o. SurvivorLaw (view g.F.Fabric.marks c.args.row.now) (gave o)) (sym c.then_some.ensures) t.1;
     }

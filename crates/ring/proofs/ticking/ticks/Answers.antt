@@ -1,7 +1,8 @@
-use Rattle.std.proofs.Common.{◌≡◌, suc, ◌+◌, ◌-◌, Err, sym, refl, ◌∙◌, subst, arith}
+use Rattle.std.proofs.Common.{◌≡◌, suc, ◌+◌, ◌-◌, Err, sym, refl, ap, ◌∙◌, subst, arith}
+use Rattle.std.proofs.lemmas.Result.{err_from_is_err_and}
 use Rattle.frame.specs.Refusals.{gave}
 use Rattle.ring.specs.Calls.{Ticks, none, last, more, call, tick}
-use Rattle.ring.specs.Faults.{told_ring}
+use Rattle.ring.specs.Faults.{ring_refusal, told_ring, unplaced}
 use Rattle.ring.proofs.Doing.{refused_again, row_refuses}
 use Rattle.ring.proofs.Lasting.{stays_open}
 use Rattle.ring.proofs.ticking.ticks.Goals as goal
@@ -12,32 +13,36 @@ returns-then-count-eq0 g c = record {
   host = λ k d. refl;
 }
 
-pub returns-in-Err : goal.returns-in-Err
-returns-in-Err g c =
-    let n : suc (c.args.count - 1) ≡ c.args.count = omega arith in
+pub returns-in_err-check : goal.returns-in_err-check
+returns-in_err-check g c =
+    let marks = g.F.Fabric.marks in
     let row = c.args.row.now in
-    let d = row_refuses g.F.Fabric.marks g.F.Fabric.kept row c.args.station tick c.in-Err.cause c.nowhere.result c.in-Err.ensures c.nowhere.ensures.station c.nowhere.ensures.port c.nowhere.ensures.cause in
+    let n : suc (c.args.count - 1) ≡ c.args.count = omega arith in
+    let r = err_from_is_err_and c.from_residual.result c.from_residual.ensures.1 in
+    let d = row_refuses marks g.F.Fabric.kept row c.args.station tick c.in_err-check.field-0.0 c.in_err-check.ensures in
     record {
-      does = subst (λ n. Ticks g.F.Fabric.marks c.args.station n row (told_ring (Err c.nowhere.result)) row) n
-          (refused_again g.F.Fabric.marks c.args.station (c.args.count - 1) row row (Err c.nowhere.result) refl d.does);
+      does = subst (λ t. Ticks marks c.args.station c.args.count row (told_ring t) row) (sym (r.1 ∙ ap Err r.2))
+          (subst (λ n. Ticks marks c.args.station n row (told_ring (Err (unplaced c.in_err-check.field-0.0))) row) n (refused_again marks c.args.station (c.args.count - 1) row row _ d.does));
       host = d.host;
     }
 
-pub returns-then-is_err : goal.returns-then-is_err
-returns-then-is_err g c =
+pub returns-in_err-act : goal.returns-in_err-act
+returns-in_err-act g c =
     let marks = g.F.Fabric.marks in
+    let row = c.args.row.now in
+    let x = c.in_err-act.field-0.0 in
     let m : suc (c.args.count - c.loop.counter) + (c.loop.counter - 1) ≡ c.args.count = omega arith in
-    let here = refused_again marks c.args.station (c.args.count - c.loop.counter) c.loop.row c.act-answer.new.row c.act-answer.result
-    (sym c.is_err.ensures.value ∙ c.if-is_err.true) c.act-answer.ensures.does in
+    let r = err_from_is_err_and c.from_residual-in_err-act.result c.from_residual-in_err-act.ensures.1 in
+    let here = refused_again marks c.args.station (c.args.count - c.loop.counter) c.loop.row c.act.new.row (ring_refusal x) c.in_err-act.ensures.does in
     record {
-      does = subst (λ n. Ticks marks c.args.station n c.args.row.now (told_ring c.act-answer.result) c.act-answer.new.row) m
-          (c.loop.invariant.1 (c.args.count - c.loop.counter) _ _ here);
-      host = λ k d. c.act-answer.ensures.host k d ∙ c.loop.invariant.2 k d;
+      does = subst (λ t. Ticks marks c.args.station c.args.count row (told_ring t) c.act.new.row) (sym (r.1 ∙ ap Err r.2))
+          (subst (λ n. Ticks marks c.args.station n row (told_ring (Err x)) c.act.new.row) m (c.loop.invariant.1 (c.args.count - c.loop.counter) _ _ here));
+      host = λ k d. c.act.ensures.host k d ∙ c.loop.invariant.2 k d;
     }
 
 pub loop-init : goal.loop-init
 loop-init g c = (
-  c.in_default.ensures,
+  c.in_ok-check.ensures,
   λ n r row' t. let m : suc n ≡ suc n + 0 = omega arith in subst (λ j. Ticks g.F.Fabric.marks c.args.station j c.args.row.now r row') m t,
   λ k d. refl,
 )
@@ -45,12 +50,12 @@ loop-init g c = (
 pub loop-preserved : goal.loop-preserved
 loop-preserved g c =
     let marks = g.F.Fabric.marks in
-    let made = c.act-answer.ensures.does in (
-      stays_open c.node_laws.ensures marks (call c.args.station tick) c.loop.row c.act-answer.new.row _ made.step c.loop.invariant.0,
+    let made = c.act.ensures.does in (
+      stays_open c.node_laws.ensures marks (call c.args.station tick) c.loop.row c.act.new.row _ made.step c.loop.invariant.0,
       λ n r row' t.
           let m : suc (suc n) + (c.loop.counter - 1) ≡ suc n + (c.loop.counter + 1 - 1) = omega arith in
           subst (λ j. Ticks marks c.args.station j c.args.row.now r row') m (c.loop.invariant.1 (suc n) r row' (more made t)),
-      λ k d. c.act-answer.ensures.host k d ∙ c.loop.invariant.2 k d,
+      λ k d. c.act.ensures.host k d ∙ c.loop.invariant.2 k d,
     )
 
 pub returns : goal.returns
@@ -58,7 +63,7 @@ returns g c =
     let marks = g.F.Fabric.marks in
     let end : 1 + (c.loop.counter - 1) ≡ c.args.count = omega arith in
     record {
-      does = subst (λ n. Ticks marks c.args.station n c.args.row.now (told_ring c.act.result) c.act.new.row) end
-          (c.loop.invariant.1 0 _ _ (last c.act.ensures.does));
-      host = λ k d. c.act.ensures.host k d ∙ c.loop.invariant.2 k d;
+      does = subst (λ n. Ticks marks c.args.station n c.args.row.now (told_ring c.act-2.result) c.act-2.new.row) end
+          (c.loop.invariant.1 0 _ _ (last c.act-2.ensures.does));
+      host = λ k d. c.act-2.ensures.host k d ∙ c.loop.invariant.2 k d;
     }
