@@ -58,14 +58,10 @@ in_range ss h k l = not-false (settings_ok (setting ss k)) (none_passes (λ g. n
 -- ---- one more station of a ring
 
 module _ {F : Type 0} (marks : F → Marks) where
-  pub one_started : (row : List (Station F)) (k : ℕ) (g : Settings) (x : Station F) (v : NodeValues) (f : F) → k < length row → x ≡ get_or row k x
-      → v ≡ started g no_port → marks f ≡ set_up_marks g (marks x.fabric)
-      → view marks (set row k (record { values = v; fabric = f })) ≡ set (view marks row) k (fresh (seat (view marks row) k) g)
-  one_started row k g x v f l e a b =
-      let at : seat (view marks row) k ≡ seat_of marks x = seat_read marks row k x l e in
-      let n : marks f ≡ set_up_marks g (seat (view marks row) k).marks = b ∙ ap (λ m. set_up_marks g m) (sym (ap (λ (s : Seat). s.marks) at)) in
-      let P : NodeValues → Marks → Seat = λ w m. record { values = w; marks = m } in
-      view_set marks row k (record { values = v; fabric = f }) ∙ ap (λ s. set (view marks row) k s) (ap (λ w. P w (marks f)) a ∙ ap (λ m. P (started g no_port) m) n)
+  pub one_started : (row : List (Station F)) (k : ℕ) (g : Settings) (x y : Station F) → k < length row
+      → seat_of marks y ≡ fresh (seat_of marks (get_or row k x)) g → view marks (set row k y) ≡ set (view marks row) k (fresh (seat (view marks row) k) g)
+  one_started row k g x y l s =
+      view_set marks row k y ∙ ap (λ t. set (view marks row) k t) (s ∙ ap (λ t. fresh t g) (sym (get_or-map (seat_of marks) row k x blank l)))
 
 module _ (old ring ring' : List Seat) (ss : List Settings) (k : ℕ) (g : Settings) (within : k < length ring) (is : ring' ≡ set ring k (fresh (seat ring k) g)) (gs : g ≡ setting ss k)
     (below : (j : ℕ) → j < k → seat ring j ≡ fresh (seat old j) (setting ss j)) (above : (j : ℕ) → k ≤ j → seat ring j ≡ seat old j) where

@@ -17,7 +17,7 @@ use node::Node;
 fn has_id<F>(station: &Station<F>, node: NodeId) -> bool
     ensures { result ≡ (id_number station.now.values.settings.id == id_number node) }
 {
-    station.values.settings.id.number() == node.number()
+    u64::from(station.values.settings.id) == u64::from(node)
 }
 
 // 17: no station has this ID.

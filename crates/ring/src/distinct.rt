@@ -11,7 +11,7 @@ fn copy_ids<S: Settled>(row: &[S], ids: &mut [u64])
     ensures items { (k : ℕ) → k < length row.now → slice_index ids.new k ≡ id_number (setting (map S.Settled.settled row.now) k).id }
 {
     for (k, id) in ids.iter_mut().enumerate() {
-        *id = row[k].settings().id.number();
+        *id = u64::from(row[k].settings().id);
     }
 }
 

@@ -4,7 +4,7 @@ ghost use Rattle.frame.specs.Highest.{first_with};
 ghost use Rattle.node.specs.Rules.{settings_ok};
 ghost use Rattle.ring.specs.Calls.{Keeps};
 ghost use Rattle.ring.specs.Faults.{told_ring};
-ghost use Rattle.ring.specs.Row.{seat, setting, view};
+ghost use Rattle.ring.specs.Row.{seat, seat_of, setting, view};
 ghost use Rattle.ring.specs.Runs.{Law};
 ghost use Rattle.ring.specs.SetUp.{SetsUp, fresh};
 
@@ -22,33 +22,26 @@ fn first_at_fault(settings: &[Settings]) -> Option<usize>
     settings.iter().position(|own| !settings_ok(*own))
 }
 
-fn start_one<F: Fabric + Copy>(row: &mut [Station<F>], k: usize, settings: Settings)
-    requires within { k < length row.old }
-    requires range { settings_ok settings ≡ true }
-    ensures seen { view F.Fabric.marks row.new ≡ slice_set (view F.Fabric.marks row.old) k (fresh (seat (view F.Fabric.marks row.old) k) settings) }
-    ensures host { Keeps F.Fabric.kept row.old row.new }
+fn start<F: Fabric>(station: &mut Station<F>, settings: Settings)
+    requires { settings_ok settings ≡ true }
+    ensures seen { seat_of F.Fabric.marks station.new ≡ fresh (seat_of F.Fabric.marks station.old) settings }
+    ensures host { F.Fabric.kept station.new.fabric ≡ F.Fabric.kept station.old.fabric }
 {
-    let at = row[k];
-    let mut fabric = at.fabric;
-    match Node::set_up(settings, &mut fabric) {
-        Ok(node) => {
-            row[k] = Station {
-                values: node.values,
-                fabric,
-            };
-        }
+    match Node::set_up(settings, &mut station.fabric) {
+        Ok(node) => station.values = node.values,
         Err(_) => unreachable(),
     }
 }
 
-fn start_all<F: Fabric + Copy>(row: &mut [Station<F>], settings: &[Settings])
+// By a number, since of a slice that is written through an adapter of `iter_mut` a proof knows nothing.
+fn start_all<F: Fabric>(row: &mut [Station<F>], settings: &[Settings])
     requires count { length settings.now ≡ length row.old }
     requires range { (k : ℕ) → k < length row.old → settings_ok (setting settings.now k) ≡ true }
     ensures seen { (k : ℕ) → k < length row.old → seat (view F.Fabric.marks row.new) k ≡ fresh (seat (view F.Fabric.marks row.old) k) (setting settings.now k) }
     ensures host { Keeps F.Fabric.kept row.old row.new }
 {
-    for k in 0..row.len() {
-        start_one(row, k, settings[k]);
+    for (k, station) in row.iter_mut().enumerate() {
+        start(station, settings[k]);
     }
 }
 

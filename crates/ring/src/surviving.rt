@@ -1,5 +1,7 @@
 // The survivor question: the station with the highest ID among those that send NR.
 ghost use Rattle.std.specs.Prelude.{◌≡◌};
+ghost use Rattle.frame.specs.Highest.{option_rank};
+ghost use Rattle.frame.specs.Ids.{id_number};
 ghost use Rattle.frame.specs.Refusals.{gave};
 ghost use Rattle.ring.specs.Faults.{told_ring};
 ghost use Rattle.ring.specs.Row.{view};
@@ -9,7 +11,7 @@ use crate::faults::RingRefusal;
 use crate::opening::check;
 use crate::station::Station;
 use fabric::Fabric;
-use frame::{Ranked, Request, highest};
+use frame::{NodeId, Ranked, Request, highest};
 use node::NodeValues;
 
 fn sends_nr(values: NodeValues) -> bool
@@ -18,14 +20,19 @@ fn sends_nr(values: NodeValues) -> bool
     matches!(values.sending.request, Some(Request::NoRequest))
 }
 
+// The ID of a station that sends NR.
+fn nr_id(values: NodeValues) -> Option<NodeId>
+    ensures { option_rank id_number result ≡ nr_rank values }
+{
+    sends_nr(values).then_some(values.settings.id)
+}
+
 // Stations that send NR rank by their IDs, above all others.
 impl<F> Ranked for Station<F> {
     ghost rank = { λ s. nr_rank s.values };
 
     fn outranks(&self, other: &Station<F>) -> bool {
-        let own = self.values;
-        let far = other.values;
-        sends_nr(own) & (!sends_nr(far) | (far.settings.id.number() < own.settings.id.number()))
+        nr_id(self.values).outranks(&nr_id(other.values))
     }
 }
 
