@@ -1,6 +1,7 @@
 -- From what a node's call does to what the ring's call does. Assumes nothing.
 use Rattle.std.proofs.Common.{◌≡◌, ℕ, zero, suc, ◌<◌, Bool, true, false, cond, ltb, List, [], ◌∷◌, length, get_or, set, is_ok, Some, None, Ok, Err, Option, Result, sym, refl, ap, ◌∙◌, subst, arith, get_or-set_other}
 use Rattle.std.proofs.lemmas.Bool.{true≢false}
+use Rattle.std.proofs.lemmas.List.{get_or-map}
 use Rattle.fabric.specs.Marks.{Marks}
 use Rattle.frame.specs.Refusals.{Refusal, Answer, gave, refused}
 use Rattle.frame.specs.declared.types.Message.{Message}
@@ -9,13 +10,16 @@ use Rattle.node.specs.declared.types.NodeValues.{NodeValues}
 use Rattle.node.specs.declared.types.Port.{Port}
 use Rattle.node.specs.Calls as node
 use Rattle.node.specs.Calls.{Step}
+use Rattle.node.specs.Faults.{told_at}
 use Rattle.node.specs.Settling.{is_due}
 use Rattle.ring.specs.declared.faults.RingFault.{RingFault}
+use Rattle.ring.specs.declared.station.Live.{Live}
 use Rattle.ring.specs.declared.station.Station.{Station}
-use Rattle.ring.specs.Calls.{Ask, force, switch, fail, repair, clear, tick, restart, status, deliver, frame, Call, call, gate, row_gate, names_nobody, usurps, judged, step_of, step_at, answered, moved_if, ring_answer, is_gave, Keeps, Does, Opened, Ticks, last, more}
+use Rattle.ring.specs.Calls.{Ask, force, switch, fail, repair, clear, tick, restart, status, deliver, frame, call, gate, row_gate, names_nobody, usurps, judged, step_of, step_at, answered, moved_if, ring_answer, is_gave, Keeps, Does, Done, Ticks, last, more}
 use Rattle.ring.specs.declared.faults.RingRefusal.{RingRefusal}
 use Rattle.ring.specs.Faults.{cause_at, placed_at, ring_refusal, told_cause, told_ring, unplaced}
-use Rattle.ring.specs.Row.{Seat, view, seat, blank}
+use Rattle.ring.specs.Row.{Seat, seat_of, view, seat, blank}
+use Rattle.ring.specs.Steps.{Opened, Stepped, live_seat, written}
 use Rattle.ring.proofs.Gates.{gate_shut, row_refusal}
 use Rattle.ring.proofs.Views.{view_set}
 
@@ -92,11 +96,6 @@ unmoved ring i a e =
     let same = quiet ring (seat ring i) a e in
     ap (λ t. set ring i t) (sym (seat_is _ _ (seat ring i) (sym same.0) (sym same.1))) ∙ set_same ring i blank
 
--- a call that does what the rules say, and changes nothing of what a fabric keeps
-pub record Done {F : Type 0} (marks : F → Marks) (kept : F → List (List ℕ)) (c : Call) (row : List (Station F)) (r : Answer (Unit {0})) (row' : List (Station F)) : Type 0 where
-  pub does : Does marks c row r row'
-  pub host : Keeps kept row row'
-
 -- a question leaves the row as it is
 pub looks : {F : Type 0} (marks : F → Marks) (row : List (Station F)) (i : ℕ) → gate (view marks row) i ≡ None → Does marks (call i status) row (gave tt) row
 looks marks row i h =
@@ -136,44 +135,45 @@ module _ {F : Type 0} (marks : F → Marks) (kept : F → List (List ℕ)) (row 
     host = λ k d. refl;
   }
 
-  module _ (v : NodeValues) (f : F) (o : Opened marks row i v f) (own : (d : Station F) → (get_or row i d).fabric ≡ f) (w : NodeValues) (f' : F) (keep : kept f' ≡ kept f) where
-    at_seat : seat (view marks row) i ≡ record { values = v; marks = marks f }
-    at_seat = seat_is v (marks f) (seat (view marks row) i) o.values o.fabric
+  module _ (x : Live F) (o : Opened marks row i x) (x' : Live F) where
+    at_seat : seat (view marks row) i ≡ live_seat marks x
+    at_seat =
+        seat_is x.node.values (marks x.fabric) (seat (view marks row) i) o.values
+        (ap (λ (s : Seat). s.marks) (get_or-map (seat_of marks) row i (written x) blank o.within) ∙ ap marks (o.own (written x)))
 
-    steps : step_of (view marks row) (record { values = v; marks = marks f }) a ≡ step_at (call i a) (view marks row)
+    abbrev asks : Step
+    asks = step_of (view marks row) (live_seat marks x) a
+
+    steps : asks ≡ step_at (call i a) (view marks row)
     steps = ap (λ s. step_of (view marks row) s a) (sym at_seat)
 
-    hosts : Keeps kept row (set row i (record { values = w; fabric = f' }))
-    hosts = keeps_set kept row i (record { values = w; fabric = f' }) (λ d l. keep ∙ ap kept (sym (own d)))
+    hosts : kept x'.fabric ≡ kept x.fabric → Keeps kept row (set row i (written x'))
+    hosts keep = keeps_set kept row i (written x') (λ d l. keep ∙ ap kept (sym (o.own d)))
 
-    pub does : (said : Answer (Unit {0})) (row' : List (Station F))
-        → said ≡ (step_of (view marks row) (record { values = v; marks = marks f }) a).answer
-        → w ≡ (step_of (view marks row) (record { values = v; marks = marks f }) a).values
-        → marks f' ≡ (step_of (view marks row) (record { values = v; marks = marks f }) a).marks
-        → row' ≡ cond (is_gave said) (set row i (record { values = w; fabric = f' })) row
+    does : (said : Answer (Unit {0})) (row' : List (Station F)) → Stepped marks kept asks said x x' → row' ≡ cond (is_gave said) (set row i (written x')) row
         → Done marks kept (call i a) row (placed_at i said) row'
-    does (gave u) row' e x y z =
+    does (gave u) row' s z =
         let told : placed_at i (gave u) ≡ ring_answer (call i a) (view marks row) =
-        ap (placed_at i) (e ∙ ap (λ (s : Step). s.answer) steps) ∙ sym (ap (λ g. answered g (placed_at i (step_at (call i a) (view marks row)).answer)) o.passes) in
+        ap (placed_at i) (s.answer ∙ ap (λ (t : Step). t.answer) steps) ∙ sym (ap (λ g. answered g (placed_at i (step_at (call i a) (view marks row)).answer)) o.passes) in
         record {
           does = record {
             answer = told;
             step = record {
               taken = ap is_gave told;
-              seen = ap (view marks) z ∙ view_set marks row i (record { values = w; fabric = f' })
+              seen = ap (view marks) z ∙ view_set marks row i (written x')
                   ∙ ap (λ t. set (view marks row) i t)
-                  (ap (λ t. record { values = t; marks = marks f' }) (x ∙ ap (λ (s : Step). s.values) steps)
-                  ∙ ap (λ t. record { values = (step_at (call i a) (view marks row)).values; marks = t }) (y ∙ ap (λ (s : Step). s.marks) steps))
+                  (ap (λ t. record { values = t; marks = marks x'.fabric }) (s.values ∙ ap (λ (t : Step). t.values) steps)
+                  ∙ ap (λ t. record { values = (step_at (call i a) (view marks row)).values; marks = t }) (s.marks ∙ ap (λ (t : Step). t.marks) steps))
                   ∙ sym (ap (λ g. moved_if g (set (view marks row) i (record { values = (step_at (call i a) (view marks row)).values; marks = (step_at (call i a) (view marks row)).marks })) (view marks row)) o.passes);
               others = λ k d n. ap (λ r. get_or r k d) z ∙ get_or-set_other row i k _ d n;
               refused = λ n. never n;
             };
           };
-          host = subst (λ q. Keeps kept row q) (sym z) hosts;
+          host = subst (λ q. Keeps kept row q) (sym z) (hosts s.kept);
         }
-    does (refused r) row' e x y z =
+    does (refused r) row' s z =
         let told : placed_at i (refused r) ≡ ring_answer (call i a) (view marks row) =
-        ap (placed_at i) (e ∙ ap (λ (s : Step). s.answer) steps) ∙ sym (ap (λ g. answered g (placed_at i (step_at (call i a) (view marks row)).answer)) o.passes) in
+        ap (placed_at i) (s.answer ∙ ap (λ (t : Step). t.answer) steps) ∙ sym (ap (λ g. answered g (placed_at i (step_at (call i a) (view marks row)).answer)) o.passes) in
         record {
           does = record {
             answer = told;
@@ -181,7 +181,7 @@ module _ {F : Type 0} (marks : F → Marks) (kept : F → List (List ℕ)) (row 
               taken = ap is_gave told;
               seen = ap (view marks) z
                   ∙ sym (ap (λ g. moved_if g (set (view marks row) i (record { values = (step_at (call i a) (view marks row)).values; marks = (step_at (call i a) (view marks row)).marks })) (view marks row)) o.passes
-                  ∙ unmoved (view marks row) i a (ap is_gave (sym (e ∙ ap (λ (s : Step). s.answer) steps))));
+                  ∙ unmoved (view marks row) i a (ap is_gave (sym (s.answer ∙ ap (λ (t : Step). t.answer) steps))));
               others = λ k d n. ap (λ q. get_or q k d) z;
               refused = λ _. z;
             };
@@ -191,19 +191,22 @@ module _ {F : Type 0} (marks : F → Marks) (kept : F → List (List ℕ)) (row 
 
     -- what a station answers, closed
     pub closes : (called : Option ℕ) (h : Result (Unit {0}) RingFault) (end : Result (Unit {0}) RingRefusal) (row' : List (Station F))
-        → told_cause called h ≡ (step_of (view marks row) (record { values = v; marks = marks f }) a).answer
-        → w ≡ (step_of (view marks row) (record { values = v; marks = marks f }) a).values
-        → marks f' ≡ (step_of (view marks row) (record { values = v; marks = marks f }) a).marks
-        → told_ring end ≡ placed_at i (told_cause called h)
-        → row' ≡ cond (is_ok h) (set row i (record { values = w; fabric = f' })) row
-        → Done marks kept (call i a) row (told_ring end) row'
-    closes called h end row' e x y t z =
-        subst (λ s. Done marks kept (call i a) row s row') (sym t)
-        (does (told_cause called h) row' e x y (z ∙ ap (λ b. cond b (set row i (record { values = w; fabric = f' })) row) (gave_ok called h)))
+        → Stepped marks kept asks (told_cause called h) x x'
+        → told_ring end ≡ placed_at i (told_cause called h) → row' ≡ cond (is_ok h) (set row i (written x')) row → Done marks kept (call i a) row (told_ring end) row'
+    closes called h end row' s t z =
+        subst (λ r. Done marks kept (call i a) row r row') (sym t)
+        (does (told_cause called h) row' s (z ∙ ap (λ b. cond b (set row i (written x')) row) (gave_ok called h)))
       where
         gave_ok : (called : Option ℕ) (h : Result (Unit {0}) RingFault) → is_ok h ≡ is_gave (told_cause called h)
         gave_ok called (Ok u) = refl
         gave_ok called (Err e) = refl
+
+    -- where it is a node that answers
+    pub closes_node : (called : Option ℕ) (n : Result (Unit {0}) NodeFault) (h : Result (Unit {0}) RingFault) (end : Result (Unit {0}) RingRefusal) (row' : List (Station F))
+        → Stepped marks kept asks (told_at called n) x x' → ((p : Option ℕ) → told_cause p h ≡ told_at p n)
+        → told_ring end ≡ placed_at i (told_cause called h) → row' ≡ cond (is_ok h) (set row i (written x')) row → Done marks kept (call i a) row (told_ring end) row'
+    closes_node called n h end row' s held t z =
+        closes called h end row' (record { answer = held called ∙ s.answer; values = s.values; marks = s.marks; kept = s.kept }) t z
 
 -- ---- ticks
 

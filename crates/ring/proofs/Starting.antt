@@ -8,19 +8,15 @@ use Rattle.std.proofs.lemmas.Bool.{cases_eq, cases_lt, lt-ltb, le-ltb, eq-eqb, n
 use Rattle.fabric.specs.Marks.{Marks}
 use Rattle.frame.specs.Highest.{first_with}
 use Rattle.frame.specs.Refusals.{Refusal, gave, refused}
-use Rattle.node.specs.declared.types.NodeValues.{NodeValues}
 use Rattle.node.specs.declared.types.Settings.{Settings}
-use Rattle.node.specs.Calls.{set_up_marks}
-use Rattle.node.specs.Ports.{none as no_port}
 use Rattle.node.specs.Rules.{settings_ok}
-use Rattle.node.specs.Settling.{started}
 use Rattle.ring.specs.declared.faults.RingFault.TheVariants.{Count, Unlawful}
 use Rattle.ring.specs.declared.station.Station.{Station}
 use Rattle.ring.specs.Calls.{Keeps}
 use Rattle.ring.specs.Faults.{cause_at}
 use Rattle.ring.specs.Row.{Seat, seat_of, view, seat, setting, blank, lawful, ring_settings, no_settings, count_fits}
 use Rattle.ring.specs.SetUp.{fresh, set_up_refusal, settings_refusal, unless_refused, SetsUp}
-use Rattle.ring.proofs.Views.{seat_read, view_set}
+use Rattle.ring.proofs.Views.{view_set}
 
 -- ---- settings in range
 

@@ -1,5 +1,5 @@
 -- What each call of a ring answers, and what it makes of the row. Assumes nothing.
-use Rattle.std.specs.Prelude.{◌≡◌, ℕ, suc, ◌<◌, Bool, true, false, cond, not, ◌&&◌, List, length, Some, None, Option, ◌==◌, ◌≢◌, nat_lt, slice_index_or, slice_set}
+use Rattle.std.specs.Prelude.{◌≡◌, ℕ, suc, Bool, true, false, cond, not, ◌&&◌, List, length, Some, None, Option, ◌==◌, ◌≢◌, nat_lt, slice_index_or, slice_set}
 use Rattle.fabric.specs.Marks.{Marks}
 use Rattle.frame.specs.Ids.{id_number}
 use Rattle.frame.specs.Refusals.{Answer, gave, refused}
@@ -7,7 +7,6 @@ use Rattle.frame.specs.declared.types.Body.{Body}
 use Rattle.frame.specs.declared.types.Body.TheVariants.{Event, Signal}
 use Rattle.frame.specs.declared.types.Message.{Message}
 use Rattle.frame.specs.declared.types.NodeId.{NodeId}
-use Rattle.node.specs.declared.types.NodeValues.{NodeValues}
 use Rattle.node.specs.declared.types.Status.{Status}
 use Rattle.node.specs.Calls.{Step, turned_away, force_step, manual_step, fail_step, repair_step, clear_step, tick_step, restart_step, message_step, question, frame_answer, frame_values, frame_buffer, status_of}
 use Rattle.node.specs.Names.{is_owner}
@@ -121,12 +120,10 @@ Keeps {F} kept row row' = (k : ℕ) (d : Station F) → kept (slice_index_or row
 abbrev pub call : ℕ → Ask → Call
 call i a = record { station = i; asks = a }
 
--- the station's values and fabric, read from a row where the call may go on
-pub record Opened {F : Type 0} (marks : F → Marks) (row : List (Station F)) (i : ℕ) (v : NodeValues) (f : F) : Type 0 where
-  pub passes : gate (view marks row) i ≡ None
-  pub within : i < length row
-  pub values : (seat (view marks row) i).values ≡ v
-  pub fabric : (seat (view marks row) i).marks ≡ marks f
+-- what every call at a station promises: that it does what the rules say, and changes nothing that a fabric keeps
+pub record Done {F : Type 0} (marks : F → Marks) (kept : F → List (List ℕ)) (c : Call) (row : List (Station F)) (r : Answer (Unit {0})) (row' : List (Station F)) : Type 0 where
+  pub does : Does marks c row r row'
+  pub host : Keeps kept row row'
 
 -- what a call answers, but for the value
 abbrev pub unit_of : {X : Type 0} → Answer X → Answer (Unit {0})

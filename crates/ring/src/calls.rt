@@ -1,10 +1,11 @@
 // The calls of a ring at a station: the row is checked, and one station is read, asked, and written whole.
-ghost use Rattle.std.specs.Prelude.{◌≡◌, None};
-ghost use Rattle.ring.specs.Calls.{Does, Keeps, call, clear, deliver, fail, force, frame as frame_into, repair, restart, ring_buffer, ring_status, status, switch, tick, unit_of};
+ghost use Rattle.std.specs.Prelude.{◌≡◌};
+ghost use Rattle.ring.specs.Calls.{Does, Done, call, clear, deliver, fail, force, frame as frame_into, repair, restart, ring_buffer, ring_status, status, switch, tick, unit_of};
 ghost use Rattle.ring.specs.Faults.{told_ring};
 ghost use Rattle.ring.specs.Row.{view};
 
-use crate::asking::{StationCall, perform};
+use crate::acting::perform;
+use crate::delivery::hear;
 use crate::faults::RingRefusal;
 use crate::opening::{close, held, open};
 use crate::station::Station;
@@ -17,10 +18,14 @@ pub fn force<F: Fabric + Copy>(
     station: usize,
     port: u8,
 ) -> Result<(), RingRefusal>
-    ensures does { Does F.Fabric.marks (call station (force port)) row.old (told_ring result) row.new }
-    ensures host { Keeps F.Fabric.kept row.old row.new }
+    ensures { Done F.Fabric.marks F.Fabric.kept (call station (force port)) row.old (told_ring result) row.new }
 {
-    perform(row, station, StationCall::Force(port), &[])
+    perform(
+        row,
+        station,
+        Some(port),
+        |at| at.node.force(&mut at.fabric, port),
+    )
 }
 
 // Manual switch (MS) at a station's port.
@@ -29,10 +34,14 @@ pub fn switch<F: Fabric + Copy>(
     station: usize,
     port: u8,
 ) -> Result<(), RingRefusal>
-    ensures does { Does F.Fabric.marks (call station (switch port)) row.old (told_ring result) row.new }
-    ensures host { Keeps F.Fabric.kept row.old row.new }
+    ensures { Done F.Fabric.marks F.Fabric.kept (call station (switch port)) row.old (told_ring result) row.new }
 {
-    perform(row, station, StationCall::Switch(port), &[])
+    perform(
+        row,
+        station,
+        Some(port),
+        |at| at.node.switch(&mut at.fabric, port),
+    )
 }
 
 // A failure at a station's port.
@@ -41,10 +50,14 @@ pub fn fail<F: Fabric + Copy>(
     station: usize,
     port: u8,
 ) -> Result<(), RingRefusal>
-    ensures does { Does F.Fabric.marks (call station (fail port)) row.old (told_ring result) row.new }
-    ensures host { Keeps F.Fabric.kept row.old row.new }
+    ensures { Done F.Fabric.marks F.Fabric.kept (call station (fail port)) row.old (told_ring result) row.new }
 {
-    perform(row, station, StationCall::Fail(port), &[])
+    perform(
+        row,
+        station,
+        Some(port),
+        |at| at.node.fail(&mut at.fabric, port),
+    )
 }
 
 // The repair of a station's port.
@@ -53,34 +66,38 @@ pub fn repair<F: Fabric + Copy>(
     station: usize,
     port: u8,
 ) -> Result<(), RingRefusal>
-    ensures does { Does F.Fabric.marks (call station (repair port)) row.old (told_ring result) row.new }
-    ensures host { Keeps F.Fabric.kept row.old row.new }
+    ensures { Done F.Fabric.marks F.Fabric.kept (call station (repair port)) row.old (told_ring result) row.new }
 {
-    perform(row, station, StationCall::Repair(port), &[])
+    perform(
+        row,
+        station,
+        Some(port),
+        |at| at.node.repair(&mut at.fabric, port),
+    )
 }
 
 // Clear at a station.
 pub fn clear<F: Fabric + Copy>(row: &mut [Station<F>], station: usize) -> Result<(), RingRefusal>
-    ensures does { Does F.Fabric.marks (call station clear) row.old (told_ring result) row.new }
-    ensures host { Keeps F.Fabric.kept row.old row.new }
+    ensures { Done F.Fabric.marks F.Fabric.kept (call station clear) row.old (told_ring result) row.new }
 {
-    perform(row, station, StationCall::Clear, &[])
+    perform(row, station, None, |at| at.node.clear(&mut at.fabric))
 }
 
 // One tick at a station.
 pub fn tick<F: Fabric + Copy>(row: &mut [Station<F>], station: usize) -> Result<(), RingRefusal>
-    ensures does { Does F.Fabric.marks (call station tick) row.old (told_ring result) row.new }
-    ensures host { Keeps F.Fabric.kept row.old row.new }
+    ensures { Done F.Fabric.marks F.Fabric.kept (call station tick) row.old (told_ring result) row.new }
 {
-    perform(row, station, StationCall::Tick, &[])
+    perform(row, station, None, |at| at.node.tick(&mut at.fabric))
 }
 
 // Starts a station again.
 pub fn restart<F: Fabric + Copy>(row: &mut [Station<F>], station: usize) -> Result<(), RingRefusal>
-    ensures does { Does F.Fabric.marks (call station restart) row.old (told_ring result) row.new }
-    ensures host { Keeps F.Fabric.kept row.old row.new }
+    ensures { Done F.Fabric.marks F.Fabric.kept (call station restart) row.old (told_ring result) row.new }
 {
-    perform(row, station, StationCall::Restart, &[])
+    perform(row, station, None, |at| {
+        at.node.restart(&mut at.fabric);
+        Ok(())
+    })
 }
 
 // Hands a frame to a station at a port.
@@ -90,10 +107,11 @@ pub fn deliver<F: Fabric + Copy>(
     port: u8,
     octets: &[u8],
 ) -> Result<(), RingRefusal>
-    ensures does { Does F.Fabric.marks (call station (deliver port octets.now)) row.old (told_ring result) row.new }
-    ensures host { Keeps F.Fabric.kept row.old row.new }
+    ensures { Done F.Fabric.marks F.Fabric.kept (call station (deliver port octets.now)) row.old (told_ring result) row.new }
 {
-    perform(row, station, StationCall::Deliver(port), octets)
+    let mut at = open(row, station)?;
+    let answer = hear(row, &mut at, port, octets);
+    close(row, station, Some(port), at, answer)
 }
 
 // The frame that is due at a station, into the buffer's first 55 octets.
@@ -102,17 +120,12 @@ pub fn take_frame<F: Fabric + Copy>(
     station: usize,
     buffer: &mut [u8],
 ) -> Result<(), RingRefusal>
-    ensures does { Does F.Fabric.marks (call station (frame_into buffer.old)) row.old (told_ring result) row.new }
-    ensures host { Keeps F.Fabric.kept row.old row.new }
+    ensures done { Done F.Fabric.marks F.Fabric.kept (call station (frame_into buffer.old)) row.old (told_ring result) row.new }
     ensures left { buffer.new ≡ ring_buffer (view F.Fabric.marks row.old) station buffer.old }
 {
-    let (mut node, fabric) = open(row, station)?;
-    let answer = held(node.take_frame(buffer));
-    let after = Station {
-        values: node.values,
-        fabric,
-    };
-    close(row, station, None, after, answer)
+    let mut at = open(row, station)?;
+    let answer = at.node.take_frame(buffer);
+    close(row, station, None, at, held(answer))
 }
 
 // What a station's node holds but the flush pairs; changes nothing.
@@ -120,6 +133,6 @@ pub fn status<F: Fabric + Copy>(row: &[Station<F>], station: usize) -> Result<St
     ensures answer { told_ring result ≡ ring_status (view F.Fabric.marks row.now) station }
     ensures does { Does F.Fabric.marks (call station status) row.now (unit_of (told_ring result)) row.now }
 {
-    let (node, _) = open(row, station)?;
-    Ok(node.status())
+    let at = open(row, station)?;
+    Ok(at.node.status())
 }

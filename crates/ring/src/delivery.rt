@@ -1,18 +1,17 @@
 // The delivery of a frame: the station is asked, the ring judges 17 and 18, then the message is taken.
 ghost use Rattle.std.specs.Prelude.{◌≡◌, Bool, not, ◌&&◌, length, Some, ◌==◌};
 ghost use Rattle.frame.specs.Ids.{id_number};
-ghost use Rattle.node.specs.Calls.{question};
 ghost use Rattle.node.specs.Names.{is_owner};
-ghost use Rattle.ring.specs.Calls.{is_owners, is_rb, judged, names_nobody, usurps};
+ghost use Rattle.ring.specs.Calls.{deliver, is_owners, is_rb, names_nobody, step_of, usurps};
 ghost use Rattle.ring.specs.Faults.{told_cause};
-ghost use Rattle.ring.specs.Row.{Seat, all_below, view};
+ghost use Rattle.ring.specs.Row.{all_below, view};
+ghost use Rattle.ring.specs.Steps.{Stepped, live_seat};
 
 use crate::faults::RingFault;
 use crate::lawful::is_owner;
-use crate::station::Station;
+use crate::station::{Live, Station};
 use fabric::Fabric;
 use frame::{Body, Message, NodeId, Request};
-use node::Node;
 
 fn has_id<F>(station: &Station<F>, node: NodeId) -> bool
     ensures { result ≡ (id_number station.now.values.settings.id == id_number node) }
@@ -59,23 +58,19 @@ fn usurps<F: Fabric>(row: &[Station<F>], message: Message) -> bool
 // 8, 9, 1 to 6, 17, 18, then the message.
 pub(crate) fn hear<F: Fabric>(
     row: &[Station<F>],
-    node: &mut Node,
-    fabric: &mut F,
+    at: &mut Live<F>,
     port: u8,
     octets: &[u8],
 ) -> Result<(), RingFault>
-    ensures answer { told_cause (Some port) result ≡ (judged (view F.Fabric.marks row.now) (record { values = node.old.values; marks = F.Fabric.marks fabric.old }) port (question node.old.values (F.Fabric.marks fabric.old) port octets.now)).answer }
-    ensures values { node.new.values ≡ (judged (view F.Fabric.marks row.now) (record { values = node.old.values; marks = F.Fabric.marks fabric.old }) port (question node.old.values (F.Fabric.marks fabric.old) port octets.now)).values }
-    ensures marks { F.Fabric.marks fabric.new ≡ (judged (view F.Fabric.marks row.now) (record { values = node.old.values; marks = F.Fabric.marks fabric.old }) port (question node.old.values (F.Fabric.marks fabric.old) port octets.now)).marks }
-    ensures kept { F.Fabric.kept fabric.new ≡ F.Fabric.kept fabric.old }
+    ensures { Stepped F.Fabric.marks F.Fabric.kept (step_of (view F.Fabric.marks row.now) (live_seat F.Fabric.marks at.old) (deliver port octets.now)) (told_cause (Some port) result) at.old at.new }
 {
-    let message = node.question(fabric, port, octets)?;
+    let message = at.node.question(&at.fabric, port, octets)?;
     if names_nobody(row, message.node) {
         return Err(RingFault::Unnamed);
     }
     if usurps(row, message) {
         return Err(RingFault::NotOwner);
     }
-    node.take_message(fabric, port, message)?;
+    at.node.take_message(&mut at.fabric, port, message)?;
     Ok(())
 }

@@ -1,7 +1,7 @@
 // Stations in a row that the caller owns.
 #![tactic(auto)]
 
-mod asking;
+mod acting;
 mod calls;
 mod delivery;
 mod distinct;

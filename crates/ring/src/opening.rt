@@ -1,15 +1,16 @@
 // Where a call enters a row and leaves it.
-ghost use Rattle.std.specs.Prelude.{◌≡◌, ℕ, ◌<◌, length, is_ok, if◌then◌else◌, Some, None, Option, IfOk, slice_index_or, slice_set};
+ghost use Rattle.std.specs.Prelude.{◌≡◌, ℕ, ◌<◌, length, is_ok, if◌then◌else◌, Some, None, Option, slice_set};
 ghost use Rattle.std.specs.Result as Results;
 ghost use Rattle.frame.specs.Refusals.{refused};
 ghost use Rattle.node.specs.Faults.{told_at};
-ghost use Rattle.ring.specs.Calls.{Opened, gate, row_gate};
+ghost use Rattle.ring.specs.Calls.{gate, row_gate};
 ghost use Rattle.ring.specs.Faults.{cause_at, placed_at, ring_refusal, told_cause, told_ring, with_station};
 ghost use Rattle.ring.specs.Row.{view};
+ghost use Rattle.ring.specs.Steps.{Opened, written};
 
 use crate::faults::{RingFault, RingRefusal};
 use crate::lawful::{are_lawful, are_nodes, count_fits};
-use crate::station::Station;
+use crate::station::{Live, Station};
 use fabric::Fabric;
 use node::{Node, NodeFault};
 
@@ -26,32 +27,33 @@ pub(crate) fn check<F: Fabric>(row: &[Station<F>]) -> Result<(), RingFault>
     Ok(())
 }
 
-// 16: the node and the fabric of a station, in a row that was checked.
+// 16: a station, in a row that was checked.
 pub(crate) fn enter<F: Fabric + Copy>(
     row: &[Station<F>],
     station: usize,
-) -> Result<(Node, F), RingFault>
+) -> Result<Live<F>, RingFault>
     requires { row_gate (view F.Fabric.marks row.now) ≡ None }
-    ensures answer { Results.MatchResult result (λ x. Opened F.Fabric.marks row.now station x.0.values x.1) (λ e. gate (view F.Fabric.marks row.now) station ≡ Some e) }
-    ensures own { IfOk result (λ x. (d : Station F) → (slice_index_or row.now station d).fabric ≡ x.1) }
+    ensures { Results.MatchResult result (Opened F.Fabric.marks row.now station) (λ e. gate (view F.Fabric.marks row.now) station ≡ Some e) }
 {
     if station >= row.len() {
         return Err(RingFault::NoStation);
     }
     let at = row[station];
     match Node::from_values(at.values) {
-        Some(node) => Ok((node, at.fabric)),
+        Some(node) => Ok(Live {
+            node,
+            fabric: at.fabric,
+        }),
         None => unreachable(),
     }
 }
 
-// 14, 15, 16: the node and the fabric of a station, where the row is lawful and has it.
+// 14, 15, 16: a station, where the row is lawful and has it.
 pub(crate) fn open<F: Fabric + Copy>(
     row: &[Station<F>],
     station: usize,
-) -> Result<(Node, F), RingFault>
-    ensures answer { Results.MatchResult result (λ x. Opened F.Fabric.marks row.now station x.0.values x.1) (λ e. gate (view F.Fabric.marks row.now) station ≡ Some e) }
-    ensures own { IfOk result (λ x. (d : Station F) → (slice_index_or row.now station d).fabric ≡ x.1) }
+) -> Result<Live<F>, RingFault>
+    ensures { Results.MatchResult result (Opened F.Fabric.marks row.now station) (λ e. gate (view F.Fabric.marks row.now) station ≡ Some e) }
 {
     check(row)?;
     enter(row, station)
@@ -90,16 +92,19 @@ pub(crate) fn close<F: Copy>(
     row: &mut [Station<F>],
     station: usize,
     called: Option<u8>,
-    after: Station<F>,
+    after: Live<F>,
     answer: Result<(), RingFault>,
 ) -> Result<(), RingRefusal>
     requires { station < length row.old }
     ensures answer { told_ring result ≡ placed_at station (told_cause called answer) }
-    ensures row { row.new ≡ (if is_ok answer then slice_set row.old station after else row.old) }
+    ensures row { row.new ≡ (if is_ok answer then slice_set row.old station (written after) else row.old) }
 {
     match answer {
         Ok(()) => {
-            row[station] = after;
+            row[station] = Station {
+                values: after.node.values,
+                fabric: after.fabric,
+            };
             Ok(())
         }
         Err(cause) => Err(at_station(station, called, cause)),

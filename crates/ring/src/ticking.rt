@@ -3,11 +3,11 @@ ghost use Rattle.std.specs.Prelude.{◌≡◌};
 ghost use Rattle.ring.specs.Calls.{Keeps, Ticks};
 ghost use Rattle.ring.specs.Faults.{told_ring};
 
-use crate::asking::{StationCall, act};
+use crate::acting::act;
 use crate::faults::RingRefusal;
 use crate::opening::check;
 use crate::resting::node_laws;
-use crate::station::Station;
+use crate::station::{Live, Station};
 use fabric::Fabric;
 
 // So many ticks one after the other; the answer is the last one's. A tick that is refused leaves all as it is, so that every
@@ -25,8 +25,9 @@ pub fn ticks<F: Fabric + Copy>(
         return Ok(());
     }
     check(row)?;
+    let tick = |at: &mut Live<F>| at.node.tick(&mut at.fabric);
     for _ in 1..count {
-        act(row, station, StationCall::Tick, &[])?;
+        act(row, station, None, tick)?;
     }
-    act(row, station, StationCall::Tick, &[])
+    act(row, station, None, tick)
 }

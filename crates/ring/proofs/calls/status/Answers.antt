@@ -8,7 +8,7 @@ use Rattle.ring.proofs.calls.status.Goals as goal
 
 pub returns : goal.returns
 returns g c =
-    let o = c.in_ok-node.ensures.answer in
+    let o = c.in_ok-at.ensures in
     let ring = view g.F.Fabric.marks c.args.row.now in
     record {
       answer = ap gave (c.status.ensures ∙ ap status_of (sym o.values)) ∙ sym (ap (λ e. status_if e (status_of (seat ring c.args.station).values)) o.passes);

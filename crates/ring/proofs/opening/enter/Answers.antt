@@ -12,7 +12,7 @@ returns-then-station-row g c =
     let marks = g.F.Fabric.marks in
     let row = c.args.row.now in
     let l : length row ≤ c.args.station = omega arith in
-    record { answer = gate_past (view marks row) c.args.station c.requires (subst (λ n. n ≤ c.args.station) (sym (view_length marks row)) l); own = tt }
+    gate_past (view marks row) c.args.station c.requires (subst (λ n. n ≤ c.args.station) (sym (view_length marks row)) l)
 
 pub returns : goal.returns
 returns g c =
@@ -22,12 +22,9 @@ returns g c =
     let l : i < length row = omega arith in
     let at = seat_read marks row i c.index-row-station.result l c.index-row-station.is in
     record {
-      answer = record {
-        passes = gate_open (view marks row) i c.requires (subst (λ n. i < n) (sym (view_length marks row)) l);
-        within = l;
-        values = ap (λ s. s.values) at ∙ sym c.in-Some.ensures.0;
-        fabric = ap (λ s. s.marks) at;
-      };
+      passes = gate_open (view marks row) i c.requires (subst (λ n. i < n) (sym (view_length marks row)) l);
+      within = l;
+      values = ap (λ s. s.values) at ∙ sym c.in-Some.ensures.0;
       own = λ d. ap (λ s. s.fabric) (get_or_default row i d c.index-row-station.result l ∙ sym c.index-row-station.is);
     }
 

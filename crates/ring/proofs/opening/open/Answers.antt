@@ -8,4 +8,4 @@ pub returns-in_err-check : goal.returns-in_err-check
 returns-in_err-check g c =
     let shut = gate_shut (view g.F.Fabric.marks c.args.row.now) c.args.station c.in_err-check.field-0.0 c.in_err-check.ensures in
     let r = err_from_is_err_and c.from_residual.result c.from_residual.ensures.1 in
-    rw r.1 (record { answer = shut ∙ ap Some (sym r.2); own = tt })
+    rw r.1 (shut ∙ ap Some (sym r.2))

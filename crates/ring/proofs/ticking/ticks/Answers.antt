@@ -1,4 +1,4 @@
-use Rattle.std.proofs.Common.{◌≡◌, suc, ◌+◌, ◌-◌, Err, sym, refl, ap, ◌∙◌, subst, arith}
+use Rattle.std.proofs.Common.{◌≡◌, suc, ◌+◌, ◌-◌, Err, sym, refl, ap, ◌∙◌, subst, arith, rules}
 use Rattle.std.proofs.lemmas.Result.{err_from_is_err_and}
 use Rattle.frame.specs.Refusals.{gave}
 use Rattle.ring.specs.Calls.{Ticks, none, last, more, call, tick}
@@ -33,11 +33,12 @@ returns-in_err-act g c =
     let x = c.in_err-act.field-0.0 in
     let m : suc (c.args.count - c.loop.counter) + (c.loop.counter - 1) ≡ c.args.count = omega arith in
     let r = err_from_is_err_and c.from_residual-in_err-act.result c.from_residual-in_err-act.ensures.1 in
-    let here = refused_again marks c.args.station (c.args.count - c.loop.counter) c.loop.row c.act.new.row (ring_refusal x) c.in_err-act.ensures.does in
+    let d = c.in_err-act.ensures tick (λ p q r h. search rules) in
     record {
       does = subst (λ t. Ticks marks c.args.station c.args.count row (told_ring t) c.act.new.row) (sym (r.1 ∙ ap Err r.2))
-          (subst (λ n. Ticks marks c.args.station n row (told_ring (Err x)) c.act.new.row) m (c.loop.invariant.1 (c.args.count - c.loop.counter) _ _ here));
-      host = λ k d. c.act.ensures.host k d ∙ c.loop.invariant.2 k d;
+          (subst (λ n. Ticks marks c.args.station n row (told_ring (Err x)) c.act.new.row) m
+          (c.loop.invariant.1 (c.args.count - c.loop.counter) _ _ (refused_again marks c.args.station (c.args.count - c.loop.counter) c.loop.row c.act.new.row (ring_refusal x) d.does)));
+      host = λ k e. d.host k e ∙ c.loop.invariant.2 k e;
     }
 
 pub loop-init : goal.loop-init
@@ -50,20 +51,21 @@ loop-init g c = (
 pub loop-preserved : goal.loop-preserved
 loop-preserved g c =
     let marks = g.F.Fabric.marks in
-    let made = c.act.ensures.does in (
-      stays_open c.node_laws.ensures marks (call c.args.station tick) c.loop.row c.act.new.row _ made.step c.loop.invariant.0,
+    let made = c.act.ensures tick (λ p q r h. search rules) in (
+      stays_open c.node_laws.ensures marks (call c.args.station tick) c.loop.row c.act.new.row _ made.does.step c.loop.invariant.0,
       λ n r row' t.
           let m : suc (suc n) + (c.loop.counter - 1) ≡ suc n + (c.loop.counter + 1 - 1) = omega arith in
-          subst (λ j. Ticks marks c.args.station j c.args.row.now r row') m (c.loop.invariant.1 (suc n) r row' (more made t)),
-      λ k d. c.act.ensures.host k d ∙ c.loop.invariant.2 k d,
+          subst (λ j. Ticks marks c.args.station j c.args.row.now r row') m (c.loop.invariant.1 (suc n) r row' (more made.does t)),
+      λ k d. made.host k d ∙ c.loop.invariant.2 k d,
     )
 
 pub returns : goal.returns
 returns g c =
     let marks = g.F.Fabric.marks in
     let end : 1 + (c.loop.counter - 1) ≡ c.args.count = omega arith in
+    let made = c.act-2.ensures tick (λ p q r h. search rules) in
     record {
       does = subst (λ n. Ticks marks c.args.station n c.args.row.now (told_ring c.act-2.result) c.act-2.new.row) end
-          (c.loop.invariant.1 0 _ _ (last c.act-2.ensures.does));
-      host = λ k d. c.act-2.ensures.host k d ∙ c.loop.invariant.2 k d;
+          (c.loop.invariant.1 0 _ _ (last made.does));
+      host = λ k d. made.host k d ∙ c.loop.invariant.2 k d;
     }

@@ -1,0 +1,6 @@
+use Rattle.std.proofs.Common.{rules}
+use Rattle.ring.specs.Calls.{repair}
+use Rattle.ring.proofs.calls.repair.Goals as goal
+
+pub returns : goal.returns
+returns g c = c.perform.ensures (repair c.args.port) (λ p q r h. search rules)
