@@ -8,10 +8,10 @@ ghost use Rattle.ring.specs.Row.{all_below, view};
 ghost use Rattle.ring.specs.Steps.{Stepped, live_seat};
 
 use crate::faults::RingFault;
-use crate::lawful::is_owner;
 use crate::station::{Live, Station};
 use fabric::Fabric;
 use frame::{Body, Message, NodeId, Request};
+use node::Role;
 
 fn has_id<F>(station: &Station<F>, node: NodeId) -> bool
     ensures { result ≡ (id_number station.now.values.settings.id == id_number node) }
@@ -29,16 +29,19 @@ fn names_nobody<F: Fabric>(row: &[Station<F>], node: NodeId) -> bool
 fn is_rb(body: Body) -> bool
     ensures { result ≡ is_rb body }
 {
-    match body {
-        Body::Event => false,
-        Body::Signal { request, .. } => matches!(request, Request::RplBlocked),
-    }
+    matches!(
+        body,
+        Body::Signal {
+            request: Request::RplBlocked,
+            ..
+        }
+    )
 }
 
 fn is_owners<F>(station: &Station<F>, node: NodeId) -> bool
     ensures { result ≡ (id_number station.now.values.settings.id == id_number node && is_owner station.now.values.settings.role) }
 {
-    has_id(station, node) && is_owner(station.values.settings.role)
+    has_id(station, node) && station.values.settings.role == Role::Owner
 }
 
 // No station that has this ID is the owner.

@@ -6,7 +6,7 @@ ghost use Rattle.ring.specs.declared.faults.RingFault.TheVariants.{Node};
 use node::NodeFault;
 
 // A refusal of a node is held whole.
-#[derive(Clone, Copy)]
+#[derive(Clone, Copy, PartialEq, Eq, Debug)]
 pub enum RingFault {
     Count,
     Unlawful,
@@ -25,7 +25,7 @@ impl From<NodeFault> for RingFault {
 }
 
 // A cause with its places, as a public call answers it.
-#[derive(Clone, Copy)]
+#[derive(Clone, Copy, PartialEq, Eq, Debug)]
 pub struct RingRefusal {
     pub station: Option<usize>,
     pub port: Option<u8>,

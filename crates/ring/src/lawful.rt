@@ -30,34 +30,19 @@ pub(crate) fn are_nodes<F: Fabric>(row: &[Station<F>]) -> bool
     row.iter().all(|station| makes_node(station.values))
 }
 
-pub(crate) fn is_owner(role: Role) -> bool
-    ensures { result ≡ is_owner role }
-{
-    matches!(role, Role::Owner)
-}
-
-fn opposite(a: Port, b: Port) -> bool
-    ensures { result ≡ opposite a b }
-{
-    match a {
-        Port::Zero => matches!(b, Port::One),
-        Port::One => matches!(b, Port::Zero),
-    }
-}
-
 fn stands(own: Settings, far: Settings) -> bool
     ensures { result ≡ stands own far own.role }
 {
     match own.role {
         Role::Other | Role::Owner => true,
-        Role::Neighbour => is_owner(far.role) && opposite(own.rpl, far.rpl),
+        Role::Neighbour => far.role == Role::Owner && own.rpl != far.rpl,
     }
 }
 
 fn same_settings(a: Settings, b: Settings) -> bool
     ensures { result ≡ same_settings a b }
 {
-    a.channel.ring_id == b.channel.ring_id && a.channel.vid == b.channel.vid && a.mel == b.mel
+    a.channel == b.channel && a.mel == b.mel
 }
 
 // Port 1 of each joins port 0 of the next, the last joins the first.
@@ -96,7 +81,7 @@ fn count_owners<S: Settled>(row: &[S]) -> usize
     ensures { result ≡ count_by (λ s. is_owner (S.Settled.settled s).role) row.now }
 {
     row.iter()
-        .filter(|station| is_owner(station.settings().role))
+        .filter(|station| station.settings().role == Role::Owner)
         .count()
 }
 

@@ -17,7 +17,7 @@ use node::NodeValues;
 fn sends_nr(values: NodeValues) -> bool
     ensures { result ≡ sends_nr values }
 {
-    matches!(values.sending.request, Some(Request::NoRequest))
+    values.sending.request == Some(Request::NoRequest)
 }
 
 // The ID of a station that sends NR.
