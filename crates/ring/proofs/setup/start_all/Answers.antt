@@ -22,6 +22,3 @@ loop-k-preserved g c =
       more_above old (view marks row) _ ss k (setting ss k) m is refl c.loop-k.invariant.0 c.loop-k.invariant.1,
       λ j d. host j d ∙ c.loop-k.invariant.2 j d,
     )
-
-pub returns : goal.returns
-returns g c = record { seen = λ k l. c.loop-k.invariant.0 k (omega arith); host = c.loop-k.invariant.2 }

@@ -2,14 +2,11 @@ use Rattle.std.proofs.Common.{sym, ap, ◌∙◌, subst}
 use Rattle.frame.specs.Refusals.{gave}
 use Rattle.ring.specs.Row.{view}
 use Rattle.ring.specs.Survivor.{SurvivorLaw, sends_nr}
-use Rattle.ring.proofs.Survivors.{none_chosen, none_law, told}
+use Rattle.ring.proofs.Survivors.{none_chosen, told}
 use Rattle.ring.proofs.surviving.find_survivor.Goals as goal
 
-pub returns-in_err-station : goal.returns-in_err-station
-returns-in_err-station g c = record {
-  value = c.from_residual.ensures ∙ none_chosen g.F.Fabric.marks c.args.row.now c.in_err-station.ensures.value;
-  law = subst (λ o. SurvivorLaw (view g.F.Fabric.marks c.args.row.now) (gave o)) (sym c.from_residual.ensures) (none_law g.F.Fabric.marks c.args.row.now c.in_err-station.ensures.law);
-}
+pub returns-in_err-station-clause-value : goal.returns-in_err-station-clause-value
+returns-in_err-station-clause-value g c = c.from_residual.ensures ∙ none_chosen g.F.Fabric.marks c.args.row.now c.in_err-station.ensures.value
 
 pub returns : goal.returns
 returns g c =

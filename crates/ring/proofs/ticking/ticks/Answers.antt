@@ -1,4 +1,4 @@
-use Rattle.std.proofs.Common.{◌≡◌, suc, ◌+◌, ◌-◌, Err, sym, refl, ap, ◌∙◌, subst, arith, rules}
+use Rattle.std.proofs.Common.{◌≡◌, suc, ◌+◌, ◌-◌, Err, sym, ap, ◌∙◌, subst, arith, rules}
 use Rattle.std.proofs.lemmas.Result.{err_from_is_err_and}
 use Rattle.frame.specs.Refusals.{gave}
 use Rattle.ring.specs.Calls.{Ticks, none, last, more, call, tick}
@@ -7,24 +7,18 @@ use Rattle.ring.proofs.Doing.{refused_again, row_refuses}
 use Rattle.ring.proofs.Lasting.{stays_open}
 use Rattle.ring.proofs.ticking.ticks.Goals as goal
 
-pub returns-then-count-eq0 : goal.returns-then-count-eq0
-returns-then-count-eq0 g c = record {
-  does = subst (λ n. Ticks g.F.Fabric.marks c.args.station n c.args.row.now (gave tt) c.args.row.now) (sym c.if-count-eq0.true) none;
-  host = λ k d. refl;
-}
+pub returns-then-count-eq0-clause-does : goal.returns-then-count-eq0-clause-does
+returns-then-count-eq0-clause-does g c = subst (λ n. Ticks g.F.Fabric.marks c.args.station n c.args.row.now (gave tt) c.args.row.now) (sym c.if-count-eq0.true) none
 
-pub returns-in_err-check : goal.returns-in_err-check
-returns-in_err-check g c =
+pub returns-in_err-check-clause-does : goal.returns-in_err-check-clause-does
+returns-in_err-check-clause-does g c =
     let marks = g.F.Fabric.marks in
     let row = c.args.row.now in
     let n : suc (c.args.count - 1) ≡ c.args.count = omega arith in
     let r = err_from_is_err_and c.from_residual.result c.from_residual.ensures.1 in
     let d = row_refuses marks g.F.Fabric.kept row c.args.station tick c.in_err-check.field-0.0 c.in_err-check.ensures in
-    record {
-      does = subst (λ t. Ticks marks c.args.station c.args.count row (told_ring t) row) (sym (r.1 ∙ ap Err r.2))
-          (subst (λ n. Ticks marks c.args.station n row (told_ring (Err (unplaced c.in_err-check.field-0.0))) row) n (refused_again marks c.args.station (c.args.count - 1) row row _ d.does));
-      host = d.host;
-    }
+    subst (λ t. Ticks marks c.args.station c.args.count row (told_ring t) row) (sym (r.1 ∙ ap Err r.2))
+    (subst (λ n. Ticks marks c.args.station n row (told_ring (Err (unplaced c.in_err-check.field-0.0))) row) n (refused_again marks c.args.station (c.args.count - 1) row row _ d.does))
 
 pub returns-in_err-act : goal.returns-in_err-act
 returns-in_err-act g c =
@@ -40,13 +34,6 @@ returns-in_err-act g c =
           (c.loop.invariant.1 (c.args.count - c.loop.counter) _ _ (refused_again marks c.args.station (c.args.count - c.loop.counter) c.loop.row c.act.new.row (ring_refusal x) d.does)));
       host = λ k e. d.host k e ∙ c.loop.invariant.2 k e;
     }
-
-pub loop-init : goal.loop-init
-loop-init g c = (
-  c.in_ok-check.ensures,
-  λ n r row' t. let m : suc n ≡ suc n + 0 = omega arith in subst (λ j. Ticks g.F.Fabric.marks c.args.station j c.args.row.now r row') m t,
-  λ k d. refl,
-)
 
 pub loop-preserved : goal.loop-preserved
 loop-preserved g c =
