@@ -82,10 +82,6 @@ set_same [] i d = refl
 set_same (x ∷ xs) zero d = refl
 set_same (x ∷ xs) (suc i) d = ap (λ ys. x ∷ ys) (set_same xs i d)
 
-gave_placed : (i : ℕ) (a : Answer (Unit {0})) → is_gave (placed_at i a) ≡ is_gave a
-gave_placed i (gave u) = refl
-gave_placed i (refused r) = refl
-
 seat_is : (v : NodeValues) (m : Marks) (s : Seat) → s.values ≡ v → s.marks ≡ m → s ≡ record { values = v; marks = m }
 seat_is v m s e f = ap (λ x. record { values = x; marks = s.marks }) e ∙ ap (λ y. record { values = v; marks = y }) f
 
@@ -95,21 +91,6 @@ pub unmoved : (ring : List Seat) (i : ℕ) (a : Ask) → is_gave (step_at (call 
 unmoved ring i a e =
     let same = quiet ring (seat ring i) a e in
     ap (λ t. set ring i t) (sym (seat_is _ _ (seat ring i) (sym same.0) (sym same.1))) ∙ set_same ring i blank
-
--- a question leaves the row as it is
-pub looks : {F : Type 0} (marks : F → Marks) (row : List (Station F)) (i : ℕ) → gate (view marks row) i ≡ None → Does marks (call i status) row (gave tt) row
-looks marks row i h =
-    let told : gave tt ≡ ring_answer (call i status) (view marks row) = sym (ap (λ g. answered g (placed_at i (step_at (call i status) (view marks row)).answer)) h) in
-    record {
-      answer = told;
-      step = record {
-        taken = ap is_gave told;
-        seen = sym (ap (λ g. moved_if g (set (view marks row) i (record { values = (step_at (call i status) (view marks row)).values; marks = (step_at (call i status) (view marks row)).marks })) (view marks row)) h
-            ∙ set_same (view marks row) i blank);
-        others = λ k d n. refl;
-        refused = λ n. never n;
-      };
-    }
 
 -- a station that keeps what its fabric keeps leaves all kept
 pub keeps_set : {F : Type 0} (kept : F → List (List ℕ)) (row : List (Station F)) (i : ℕ) (x : Station F)

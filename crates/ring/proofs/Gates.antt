@@ -1,6 +1,6 @@
 -- When a call of a ring may go on. Assumes nothing.
-use Rattle.std.proofs.Common.{◌≡◌, ℕ, ◌<◌, ◌≤◌, Bool, true, false, cond, ◌&&◌, ltb, List, map, length, Some, None, Option, sym, refl, ap, ◌∙◌, subst, arith}
-use Rattle.std.proofs.lemmas.Bool.{and_parts, lt-ltb, le-ltb, ltb-true}
+use Rattle.std.proofs.Common.{◌≡◌, ℕ, ◌<◌, Bool, true, false, cond, ◌&&◌, ltb, List, map, length, Some, None, Option, sym, refl, ap, ◌∙◌, subst, arith}
+use Rattle.std.proofs.lemmas.Bool.{and_parts, ltb-true}
 use Rattle.fabric.specs.Marks.{Marks}
 use Rattle.node.specs.Rules.{makes_node}
 use Rattle.ring.specs.declared.faults.RingFault.{RingFault}
@@ -19,9 +19,6 @@ checked few together = cond few (cond together None (Some Unlawful)) (Some Count
 module _ {F : Type 0} (marks : F → Marks) (row : List (Station F)) where
   at_length : row_gate (view marks row) ≡ checked (count_fits (length row)) (lawful_row (view marks row))
   at_length = ap (λ n. checked (count_fits n) (lawful_row (view marks row))) (view_length marks row)
-
-  pub row_few : count_fits (length row) ≡ false → row_gate (view marks row) ≡ Some Count
-  row_few h = at_length ∙ ap (λ b. checked b (lawful_row (view marks row))) h
 
   pub row_judged : count_fits (length row) ≡ true → (a b : Bool) → a ≡ all_nodes (view marks row) → b ≡ lawful (map (λ s. s.values.settings) row)
       → row_gate (view marks row) ≡ cond (a && b) None (Some Unlawful)
@@ -45,12 +42,6 @@ gate_is ring i = gates (count_fits (length ring)) (lawful_row ring) (ltb i (leng
 
 pub gate_shut : (ring : List Seat) (i : ℕ) (e : RingFault) → row_gate ring ≡ Some e → gate ring i ≡ Some e
 gate_shut ring i e h = gate_is ring i ∙ ap (λ o. then_station o (ltb i (length ring))) h
-
-pub gate_past : (ring : List Seat) (i : ℕ) → row_gate ring ≡ None → length ring ≤ i → gate ring i ≡ Some NoStation
-gate_past ring i h l = gate_is ring i ∙ ap (λ o. then_station o (ltb i (length ring))) h ∙ rw (le-ltb i (length ring) l)
-
-pub gate_open : (ring : List Seat) (i : ℕ) → row_gate ring ≡ None → i < length ring → gate ring i ≡ None
-gate_open ring i h l = gate_is ring i ∙ ap (λ o. then_station o (ltb i (length ring))) h ∙ rw (lt-ltb i (length ring) l)
 
 -- what an open gate shows
 if_none : {X : Type 0} (b : Bool) (o : Option X) (e : X) → cond b o (Some e) ≡ None → (b ≡ true) × (o ≡ None)

@@ -5,19 +5,12 @@ use Rattle.std.specs.List.{count_by}
 use Rattle.std.proofs.lemmas.List.{get_or-map}
 use Rattle.node.specs.declared.types.Settings.{Settings}
 use Rattle.node.specs.Names.{is_owner}
-use Rattle.ring.specs.Row.{setting, lawful, fits_at, new_id, distinct_ids, owners, all_below, count_below, joined_to, placed, stands, same_settings, no_settings}
+use Rattle.ring.specs.Row.{setting, lawful, fits_at, new_id, distinct_ids, owners, all_below, count_below, no_settings}
 use Rattle.ring.proofs.Below.{count_list}
 
 module _ {X : Type 0} (of : X → Settings) where
   pub setting_read : (row : List X) (k : ℕ) (x : X) → k < length row → x ≡ get_or row k x → setting (map of row) k ≡ of x
   setting_read row k x l e = get_or-map of row k x _ l ∙ ap of (sym e)
-
-  pub fits_is : (row : List X) (k j : ℕ) (own first far : Settings) (b : Bool) → first ≡ setting (map of row) 0
-      → far ≡ setting (map of row) j → j ≡ joined_to (length row) k own.rpl → b ≡ (same_settings own first && stands own far own.role)
-      → b ≡ (same_settings own (setting (map of row) 0) && placed (map of row) k own)
-  fits_is row k j own first far b f e h d =
-      let w : far ≡ setting (map of row) (joined_to (length (map of row)) k own.rpl) = e ∙ ap (λ i. setting (map of row) i) (h ∙ ap (λ n. joined_to n k own.rpl) (sym (length-map row of))) in
-      d ∙ ap (λ (u : Settings). same_settings own u && stands own far own.role) f ∙ ap (λ (u : Settings). same_settings own (setting (map of row) 0) && stands own u own.role) w
 
   pub lawful_is : (row : List X) (a b : Bool) (n : ℕ) → a ≡ all_below (new_id (map of row)) (length row) → b ≡ all_below (fits_at (map of row)) (length row)
       → n ≡ count_by (λ x. is_owner (of x).role) row → (a && (b && eqb n 1)) ≡ lawful (map of row)

@@ -1,21 +1,17 @@
 -- Stations set up one after the other. Assumes nothing.
-use Rattle.std.proofs.Common.{◌≡◌, ℕ, zero, suc, ◌+◌, ◌<◌, ◌≤◌, Bool, true, false, cond, not, ◌&&◌, eqb, ltb, ◌≢◌, List, [], ◌∷◌, length, get_or, set, Some, None, Option, sym, refl, ap, ◌∙◌, subst, ⊎_elim, arith, get_or-set_other, get_or-set_same}
+use Rattle.std.proofs.Common.{◌≡◌, ℕ, zero, suc, ◌+◌, ◌<◌, ◌≤◌, Bool, true, false, cond, not, ltb, ◌≢◌, List, [], ◌∷◌, length, get_or, set, Some, None, Option, sym, refl, ap, ◌∙◌, subst, ⊎_elim, arith, get_or-set_other, get_or-set_same}
 use lib.ListN.{length-map}
 use Rattle.std.specs.Option.{option_map}
 use Rattle.std.proofs.lemmas.List.{get_or-map, get_or_default, same_lists}
 use Rattle.std.specs.List.{position, position_or_len}
-use Rattle.std.proofs.lemmas.Bool.{cases_eq, cases_lt, lt-ltb, le-ltb, eq-eqb, not-false, true≢false}
+use Rattle.std.proofs.lemmas.Bool.{cases_eq, cases_lt, lt-ltb, le-ltb, not-false}
 use Rattle.fabric.specs.Marks.{Marks}
 use Rattle.frame.specs.Highest.{first_with}
-use Rattle.frame.specs.Refusals.{Refusal, gave, refused}
 use Rattle.node.specs.declared.types.Settings.{Settings}
 use Rattle.node.specs.Rules.{settings_ok}
-use Rattle.ring.specs.declared.faults.RingFault.TheVariants.{Count, Unlawful}
 use Rattle.ring.specs.declared.station.Station.{Station}
-use Rattle.ring.specs.Calls.{Keeps}
-use Rattle.ring.specs.Faults.{cause_at}
-use Rattle.ring.specs.Row.{Seat, seat_of, view, seat, setting, blank, lawful, ring_settings, no_settings, count_fits}
-use Rattle.ring.specs.SetUp.{fresh, set_up_refusal, settings_refusal, unless_refused, SetsUp}
+use Rattle.ring.specs.Row.{Seat, seat_of, view, seat, setting, blank, ring_settings, no_settings}
+use Rattle.ring.specs.SetUp.{fresh}
 use Rattle.ring.proofs.Views.{view_set}
 
 -- ---- settings in range
@@ -73,38 +69,6 @@ module _ (old ring ring' : List Seat) (ss : List Settings) (k : ℕ) (g : Settin
   more_above j l =
       let ne : j ≢ k = omega arith in
       ap (λ r. seat r j) is ∙ get_or-set_other ring k j _ _ ne ∙ above j (omega arith)
-
--- ---- answers of set-up
-
-module _ {F : Type 0} (marks : F → Marks) (kept : F → List (List ℕ)) (ss : List Settings) (row : List (Station F)) where
-  pub set_refused : (r : Refusal) → set_up_refusal (length row) ss ≡ Some r → SetsUp marks kept ss row (refused r) row
-  set_refused r h = record {
-    answer = sym (ap unless_refused h);
-    count = refl;
-    seen = λ q. absurd (true≢false (sym q));
-    refused = λ _. refl;
-    host = λ k d. refl;
-  }
-
-  module _ (h : count_fits (length row) ≡ true) (e : length ss ≡ length row) where
-    passed : set_up_refusal (length row) ss ≡ settings_refusal (first_with (λ g. not (settings_ok g)) ss) (lawful ss)
-    passed =
-        let rest : Bool → Option Refusal = λ b. cond b (settings_refusal (first_with (λ g. not (settings_ok g)) ss) (lawful ss)) (Some (cause_at None Count)) in
-        ap (λ b. rest (b && eqb (length ss) (length row))) h ∙ ap rest (eq-eqb (length ss) (length row) e)
-
-    pub law_refused : first_with (λ g. not (settings_ok g)) ss ≡ None → lawful ss ≡ false → SetsUp marks kept ss row (refused (cause_at None Unlawful)) row
-    law_refused o l = set_refused _ (passed ∙ ap (λ x. settings_refusal x (lawful ss)) o ∙ ap (settings_refusal None) l)
-
-    pub set_done : (row' : List (Station F)) → first_with (λ g. not (settings_ok g)) ss ≡ None → lawful ss ≡ true → length row' ≡ length row
-        → ((k : ℕ) → k < length row → seat (view marks row') k ≡ fresh (seat (view marks row) k) (setting ss k)) → Keeps kept row row'
-        → SetsUp marks kept ss row (gave tt) row'
-    set_done row' o l n s hosts = record {
-      answer = sym (ap unless_refused (passed ∙ ap (λ x. settings_refusal x (lawful ss)) o ∙ ap (settings_refusal None) l));
-      count = n;
-      seen = λ _. s;
-      refused = λ q. absurd (true≢false q);
-      host = hosts;
-    }
 
 -- ---- a row that was set up is lawful
 

@@ -56,9 +56,6 @@ module _ {F : Type 0} (marks : F → Marks) (row : List (Station F)) where
   pub none_chosen : None ≡ first_highest (λ (s : Station F). nr_rank s.values) row → None ≡ survivor_of (ring_values (view marks row))
   none_chosen e = sym (chosen None e)
 
-  pub none_law : length row ≡ 0 → SurvivorLaw (view marks row) (gave None)
-  none_law e j l = absurd (let m : j < length row = subst (λ n. j < n) (view_length marks row) l in omega arith)
-
   module _ (k : ℕ) (x : Station F) (at : x ≡ get_or row k x) (h : HighestAt (λ (s : Station F). nr_rank s.values) row k) (e : Some k ≡ first_highest (λ (s : Station F). nr_rank s.values) row) where
     sending_chosen : sends_nr x.values ≡ true → Some k ≡ survivor_of (ring_values (view marks row))
     sending_chosen t =
