@@ -15,7 +15,7 @@ use Rattle.node.specs.Settling.{is_due}
 use Rattle.ring.specs.declared.faults.RingFault.{RingFault}
 use Rattle.ring.specs.declared.station.Live.{Live}
 use Rattle.ring.specs.declared.station.Station.{Station}
-use Rattle.ring.specs.Calls.{Ask, force, switch, fail, repair, clear, tick, restart, status, deliver, frame, call, gate, row_gate, names_nobody, usurps, judged, step_of, step_at, answered, moved_if, ring_answer, is_gave, Keeps, Does, Done, Ticks, last, more}
+use Rattle.ring.specs.Calls.{seat_after, Ask, force, switch, fail, repair, clear, tick, restart, status, deliver, frame, call, gate, row_gate, names_nobody, usurps, judged, step_of, step_at, answered, moved_if, ring_answer, is_gave, Keeps, Does, Done, Ticks, last, more}
 use Rattle.ring.specs.declared.faults.RingRefusal.{RingRefusal}
 use Rattle.ring.specs.Faults.{cause_at, placed_at, ring_refusal, told_cause, told_ring, unplaced}
 use Rattle.ring.specs.Row.{Seat, seat_of, view, seat, blank}
@@ -87,7 +87,7 @@ seat_is v m s e f = ap (λ x. record { values = x; marks = s.marks }) e ∙ ap (
 
 -- a station that refuses stays as it is
 pub unmoved : (ring : List Seat) (i : ℕ) (a : Ask) → is_gave (step_at (call i a) ring).answer ≡ false
-    → set ring i (record { values = (step_at (call i a) ring).values; marks = (step_at (call i a) ring).marks }) ≡ ring
+    → set ring i (seat_after (call i a) ring) ≡ ring
 unmoved ring i a e =
     let same = quiet ring (seat ring i) a e in
     ap (λ t. set ring i t) (sym (seat_is _ _ (seat ring i) (sym same.0) (sym same.1))) ∙ set_same ring i blank
@@ -108,7 +108,7 @@ module _ {F : Type 0} (marks : F → Marks) (kept : F → List (List ℕ)) (row 
       answer = sym (ap (λ o. answered o (placed_at i (step_at (call i a) (view marks row)).answer)) h);
       step = record {
         taken = sym (ap (λ o. is_gave (answered o (placed_at i (step_at (call i a) (view marks row)).answer))) h);
-        seen = sym (ap (λ o. moved_if o (set (view marks row) i (record { values = (step_at (call i a) (view marks row)).values; marks = (step_at (call i a) (view marks row)).marks })) (view marks row)) h);
+        seen = sym (ap (λ o. moved_if o (set (view marks row) i (seat_after (call i a) (view marks row))) (view marks row)) h);
         others = λ k d n. refl;
         refused = λ _. refl;
       };
@@ -145,7 +145,7 @@ module _ {F : Type 0} (marks : F → Marks) (kept : F → List (List ℕ)) (row 
                   ∙ ap (λ t. set (view marks row) i t)
                   (ap (λ t. record { values = t; marks = marks x'.fabric }) (s.values ∙ ap (λ (t : Step). t.values) steps)
                   ∙ ap (λ t. record { values = (step_at (call i a) (view marks row)).values; marks = t }) (s.marks ∙ ap (λ (t : Step). t.marks) steps))
-                  ∙ sym (ap (λ g. moved_if g (set (view marks row) i (record { values = (step_at (call i a) (view marks row)).values; marks = (step_at (call i a) (view marks row)).marks })) (view marks row)) o.passes);
+                  ∙ sym (ap (λ g. moved_if g (set (view marks row) i (seat_after (call i a) (view marks row))) (view marks row)) o.passes);
               others = λ k d n. ap (λ r. get_or r k d) z ∙ get_or-set_other row i k _ d n;
               refused = λ n. never n;
             };
@@ -161,7 +161,7 @@ module _ {F : Type 0} (marks : F → Marks) (kept : F → List (List ℕ)) (row 
             step = record {
               taken = ap is_gave told;
               seen = ap (view marks) z
-                  ∙ sym (ap (λ g. moved_if g (set (view marks row) i (record { values = (step_at (call i a) (view marks row)).values; marks = (step_at (call i a) (view marks row)).marks })) (view marks row)) o.passes
+                  ∙ sym (ap (λ g. moved_if g (set (view marks row) i (seat_after (call i a) (view marks row))) (view marks row)) o.passes
                   ∙ unmoved (view marks row) i a (ap is_gave (sym (s.answer ∙ ap (λ (t : Step). t.answer) steps))));
               others = λ k d n. ap (λ q. get_or q k d) z;
               refused = λ _. z;

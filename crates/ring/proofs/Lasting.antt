@@ -6,7 +6,7 @@ use Rattle.std.proofs.lemmas.Bool.{cases_eq, and_parts, and_from}
 use Rattle.fabric.specs.Marks.{Marks}
 use Rattle.node.specs.Rules.{makes_node}
 use Rattle.ring.specs.declared.station.Station.{Station}
-use Rattle.ring.specs.Calls.{Ask, Call, call, after, gate, is_gave, row_gate, step_at, RingStep}
+use Rattle.ring.specs.Calls.{seat_after, Ask, Call, call, after, gate, is_gave, row_gate, step_at, RingStep}
 use Rattle.ring.specs.NodeLaws.{NodeLaws}
 use Rattle.ring.specs.Row.{Seat, view, seat, setting, blank, no_settings, all_nodes, count_fits, lawful, lawful_row, ring_settings}
 use Rattle.ring.proofs.Below.{below_from}
@@ -27,10 +27,10 @@ module _ (laws : NodeLaws) where
     taking = takes laws (seat ring i).values (lawful_node ring lawful_before i within) (seat ring i).marks ring a took
 
     abbrev moved : List Seat
-    moved = set ring i (record { values = (step_at (call i a) ring).values; marks = (step_at (call i a) ring).marks })
+    moved = set ring i (seat_after (call i a) ring)
 
     -- what holds of each station before and of the new one holds after
-    each : (P : Seat → Type 0) → P (record { values = (step_at (call i a) ring).values; marks = (step_at (call i a) ring).marks }) → (k : ℕ) → ((k ≡ i → ⊥) → P (seat ring k)) → P (seat moved k)
+    each : (P : Seat → Type 0) → P (seat_after (call i a) ring) → (k : ℕ) → ((k ≡ i → ⊥) → P (seat ring k)) → P (seat moved k)
     each P new k old =
         ⊎_elim
         (λ (q : k ≡ i). subst (λ j. P (seat moved j)) (sym q) (subst P (sym (get_or-set_same ring i _ blank within)) new))

@@ -20,7 +20,7 @@ use Rattle.node.specs.Receiving.{is_own}
 use Rattle.node.specs.Rules.{makes_node, settings_ok}
 use Rattle.ring.specs.declared.faults.RingFault.{RingFault}
 use Rattle.ring.specs.declared.station.Station.{Station}
-use Rattle.ring.specs.Calls.{Ask, force, switch, fail, repair, clear, tick, restart, status, deliver, frame, Call, call, gate, step_of, step_at, answered, moved_if, ring_answer, after, is_gave}
+use Rattle.ring.specs.Calls.{seat_after, Ask, deliver, Call, call, gate, step_of, step_at, answered, moved_if, ring_answer, after, is_gave}
 use Rattle.ring.specs.Faults.{placed_at}
 use Rattle.ring.specs.NodeLaws.{NodeLaws}
 use Rattle.ring.specs.Row.{Seat, view, seat, setting, blank, lawful, all_nodes, ring_settings}
@@ -29,7 +29,7 @@ use Rattle.ring.specs.SetUp.{fresh}
 use Rattle.ring.proofs.Doing.{unmoved}
 use Rattle.ring.proofs.Gates.{open_row, open_counts}
 use Rattle.ring.proofs.Owners.{named_station, sets_none}
-use Rattle.ring.proofs.Taking.{Takes, Hears, is_delivery, takes, hears}
+use Rattle.ring.proofs.Taking.{delivery_or, Takes, Hears, is_delivery, takes, hears}
 use Rattle.ring.proofs.Views.{view_length}
 
 -- how a station stands after a history: its node keeps the rules and has no mark, its fabric agrees with it, and its marks are
@@ -125,22 +125,12 @@ module _ (laws : NodeLaws) where
         (hears laws (seat ring i).values here.ok (seat ring i).marks ring n f (subst (λ z. is_gave (step_of ring (seat ring i) z).answer ≡ true) e took)).1
 
     plain : (step_at (call i a) ring).values.mismatch ≡ false
-    plain = by_ask a refl
-      where
-        by_ask : (x : Ask) → a ≡ x → (step_at (call i a) ring).values.mismatch ≡ false
-        by_ask (deliver n f) e = plain_there ring i f (step_at (call i a) ring) settled within (hearing n f e) here.plain
-        by_ask (force n) e = taking.plain (ap is_delivery e) here.plain
-        by_ask (switch n) e = taking.plain (ap is_delivery e) here.plain
-        by_ask (fail n) e = taking.plain (ap is_delivery e) here.plain
-        by_ask (repair n) e = taking.plain (ap is_delivery e) here.plain
-        by_ask clear e = taking.plain (ap is_delivery e) here.plain
-        by_ask tick e = taking.plain (ap is_delivery e) here.plain
-        by_ask restart e = taking.plain (ap is_delivery e) here.plain
-        by_ask status e = taking.plain (ap is_delivery e) here.plain
-        by_ask (frame b) e = taking.plain (ap is_delivery e) here.plain
+    plain =
+        ⊎_elim (λ (d : (n : ℕ) × (f : List ℕ) × (a ≡ deliver n f)). plain_there ring i d.1 (step_at (call i a) ring) settled within (hearing d.0 d.1 d.2) here.plain)
+        (λ (e : is_delivery a ≡ false). taking.plain e here.plain) (delivery_or a)
 
     abbrev moved : Seat
-    moved = record { values = (step_at (call i a) ring).values; marks = (step_at (call i a) ring).marks }
+    moved = seat_after (call i a) ring
 
     length_moved : length (set ring i moved) ≡ length ring
     length_moved = length-set ring i moved
@@ -224,34 +214,24 @@ module _ (laws : NodeLaws) where
                 (cases_eq k i)
 
     guards_moved : SomeBlocked ring → (SomeBlocked (set ring i moved) → ⊥) → FalseWord ring i a
-    guards_moved some gone = by_ask a refl
-      where
-        by_ask : (x : Ask) → a ≡ x → FalseWord ring i x
-        by_ask (deliver n f) e = false_word n f e gone
-        by_ask (force n) e = gone (keeps_some (ap is_delivery e) some)
-        by_ask (switch n) e = gone (keeps_some (ap is_delivery e) some)
-        by_ask (fail n) e = gone (keeps_some (ap is_delivery e) some)
-        by_ask (repair n) e = gone (keeps_some (ap is_delivery e) some)
-        by_ask clear e = gone (keeps_some (ap is_delivery e) some)
-        by_ask tick e = gone (keeps_some (ap is_delivery e) some)
-        by_ask restart e = gone (keeps_some (ap is_delivery e) some)
-        by_ask status e = gone (keeps_some (ap is_delivery e) some)
-        by_ask (frame b) e = gone (keeps_some (ap is_delivery e) some)
+    guards_moved some gone =
+        ⊎_elim (λ (d : (n : ℕ) × (f : List ℕ) × (a ≡ deliver n f)). subst (FalseWord ring i) (sym d.2) (false_word d.0 d.1 d.2 gone))
+        (λ (e : is_delivery a ≡ false). absurd (gone (keeps_some e some))) (delivery_or a)
 
   -- ---- any call
 
   -- a call is taken where it passes the gate and its station takes it; one that is turned away leaves the ring as it is
   pub by_answer : (ring : List Seat) (i : ℕ) (a : Ask) (P : Bool → List Seat → Type 0)
-      → (gate ring i ≡ None → is_gave (step_at (call i a) ring).answer ≡ true → P true (set ring i (record { values = (step_at (call i a) ring).values; marks = (step_at (call i a) ring).marks })))
+      → (gate ring i ≡ None → is_gave (step_at (call i a) ring).answer ≡ true → P true (set ring i (seat_after (call i a) ring)))
       → P false ring → P (is_gave (ring_answer (call i a) ring)) (after (call i a) ring)
   by_answer ring i a P up down = by_gate (gate ring i) refl
     where
       by_step : gate ring i ≡ None → (x : Answer (Unit {0})) → (step_at (call i a) ring).answer ≡ x
-          → P (is_gave (placed_at i x)) (set ring i (record { values = (step_at (call i a) ring).values; marks = (step_at (call i a) ring).marks }))
+          → P (is_gave (placed_at i x)) (set ring i (seat_after (call i a) ring))
       by_step q (gave u) e = up q (ap is_gave e)
       by_step q (refused r) e = subst (λ t. P false t) (sym (unmoved ring i a (ap is_gave e))) down
 
-      by_gate : (g : Option RingFault) → gate ring i ≡ g → P (is_gave (answered g (placed_at i (step_at (call i a) ring).answer))) (moved_if g (set ring i (record { values = (step_at (call i a) ring).values; marks = (step_at (call i a) ring).marks })) ring)
+      by_gate : (g : Option RingFault) → gate ring i ≡ g → P (is_gave (answered g (placed_at i (step_at (call i a) ring).answer))) (moved_if g (set ring i (seat_after (call i a) ring)) ring)
       by_gate (Some e) q = down
       by_gate None q = by_step q (step_at (call i a) ring).answer refl
 

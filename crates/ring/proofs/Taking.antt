@@ -1,5 +1,5 @@
 -- What a call that is taken does to its station, from the laws of a node. Assumes nothing.
-use Rattle.std.proofs.Common.{◌≡◌, ℕ, zero, suc, Bool, true, false, cond, not, ◌&&◌, ◌||◌, ltb, List, length, Ok, Err, Result, sym, refl, ap, ◌∙◌, subst, arith}
+use Rattle.std.proofs.Common.{◌≡◌, ℕ, zero, suc, Bool, true, false, cond, not, ◌&&◌, ◌||◌, ltb, List, length, Ok, Err, Result, ◌⊎◌, inl, inr, sym, refl, ap, ◌∙◌, subst, arith}
 use Rattle.std.proofs.lemmas.Bool.{true≢false}
 use Rattle.fabric.specs.Marks.{Marks}
 use Rattle.fabric.specs.declared.types.Ports.{Ports}
@@ -23,15 +23,19 @@ use Rattle.ring.specs.Runs.{fails, repairs, forces, ends_force}
 
 abbrev pub is_delivery : Ask → Bool
 is_delivery (deliver p f) = true
-is_delivery (force p) = false
-is_delivery (switch p) = false
-is_delivery (fail p) = false
-is_delivery (repair p) = false
-is_delivery clear = false
-is_delivery tick = false
-is_delivery restart = false
-is_delivery status = false
-is_delivery (frame b) = false
+is_delivery _ = false
+
+pub delivery_or : (a : Ask) → ((n : ℕ) × (f : List ℕ) × (a ≡ deliver n f)) ⊎ (is_delivery a ≡ false)
+delivery_or (deliver n f) = inl (n, f, refl)
+delivery_or (force n) = inr refl
+delivery_or (switch n) = inr refl
+delivery_or (fail n) = inr refl
+delivery_or (repair n) = inr refl
+delivery_or clear = inr refl
+delivery_or tick = inr refl
+delivery_or restart = inr refl
+delivery_or status = inr refl
+delivery_or (frame b) = inr refl
 
 -- the marks of failures and forced switches, as a call that is taken leaves them
 abbrev FailedSo : NodeValues → Ask → NodeValues → Type 0

@@ -92,9 +92,11 @@ abbrev pub ring_answer : Call → List Seat → Answer (Unit {0})
 ring_answer c ring = answered (gate ring c.station) (placed_at c.station (step_at c ring).answer)
 
 -- the row after the call: its station as the rules say, every other as it was
+abbrev pub seat_after : Call → List Seat → Seat
+seat_after c ring = record { values = (step_at c ring).values; marks = (step_at c ring).marks }
+
 abbrev pub after : Call → List Seat → List Seat
-after c ring =
-    moved_if (gate ring c.station) (slice_set ring c.station (record { values = (step_at c ring).values; marks = (step_at c ring).marks })) ring
+after c ring = moved_if (gate ring c.station) (slice_set ring c.station (seat_after c ring)) ring
 
 abbrev pub is_gave : {X : Type 0} → Answer X → Bool
 is_gave (gave x) = true

@@ -17,7 +17,7 @@ use Rattle.node.specs.Names.{is_sending, sent_number}
 use Rattle.node.specs.Ports.{at, bpr_of}
 use Rattle.node.specs.Rules.{idle_ports}
 use Rattle.ring.specs.declared.station.Station.{Station}
-use Rattle.ring.specs.Calls.{Ask, force, switch, fail, repair, clear, tick, restart, status, deliver, frame, Call, RingStep}
+use Rattle.ring.specs.Calls.{Ask, force, fail, repair, clear, restart, deliver, Call, RingStep}
 use Rattle.ring.specs.Row.{Seat, view, seat}
 
 -- ---- history: which ports are failed or under a local forced switch, by the calls that were taken
@@ -38,51 +38,20 @@ is_port One n = n == 1
 -- a failure there, a repair there, an FS there; Clear and restart end every FS of their station
 abbrev pub fails : Port → Ask → Bool
 fails p (fail n) = is_port p n
-fails p (force n) = false
-fails p (switch n) = false
-fails p (repair n) = false
-fails p clear = false
-fails p tick = false
-fails p restart = false
-fails p status = false
-fails p (deliver n f) = false
-fails p (frame b) = false
+fails p _ = false
 
 abbrev pub repairs : Port → Ask → Bool
 repairs p (repair n) = is_port p n
-repairs p (force n) = false
-repairs p (switch n) = false
-repairs p (fail n) = false
-repairs p clear = false
-repairs p tick = false
-repairs p restart = false
-repairs p status = false
-repairs p (deliver n f) = false
-repairs p (frame b) = false
+repairs p _ = false
 
 abbrev pub forces : Port → Ask → Bool
 forces p (force n) = is_port p n
-forces p (switch n) = false
-forces p (fail n) = false
-forces p (repair n) = false
-forces p clear = false
-forces p tick = false
-forces p restart = false
-forces p status = false
-forces p (deliver n f) = false
-forces p (frame b) = false
+forces p _ = false
 
 abbrev pub ends_force : Ask → Bool
 ends_force clear = true
 ends_force restart = true
-ends_force (force n) = false
-ends_force (switch n) = false
-ends_force (fail n) = false
-ends_force (repair n) = false
-ends_force tick = false
-ends_force status = false
-ends_force (deliver n f) = false
-ends_force (frame b) = false
+ends_force _ = false
 
 -- a call that passes the test was taken at station i
 abbrev pub asked_at : Call → ℕ → (Ask → Bool) → Bool
@@ -142,15 +111,7 @@ pub record Meets (h : History) (ring : List Seat) : Type 0 where
 -- the call is a delivery of a message, as its receiver reads it, that the station named in it is not sending
 abbrev pub FalseWord : List Seat → ℕ → Ask → Type 0
 FalseWord ring i (deliver p f) = (m : Message) × (reading f (seat ring i).values.settings.channel ≡ gave m) × Unsent ring m
-FalseWord ring i (force p) = ⊥
-FalseWord ring i (switch p) = ⊥
-FalseWord ring i (fail p) = ⊥
-FalseWord ring i (repair p) = ⊥
-FalseWord ring i clear = ⊥
-FalseWord ring i tick = ⊥
-FalseWord ring i restart = ⊥
-FalseWord ring i status = ⊥
-FalseWord ring i (frame b) = ⊥
+FalseWord ring i _ = ⊥
 
 abbrev pub FalseDelivery : List Seat → Call → Type 0
 FalseDelivery ring c = FalseWord ring c.station c.asks
