@@ -1,7 +1,9 @@
 -- When a call of a ring may go on. Assumes nothing.
-use Rattle.std.proofs.Common.{◌≡◌, ℕ, ◌<◌, Bool, true, false, cond, ◌&&◌, ltb, List, map, length, Some, None, Option, sym, refl, ap, ◌∙◌, subst, arith}
+use Rattle.std.proofs.Common.{◌≡◌, ℕ, ◌<◌, Bool, true, false, cond, ◌&&◌, ltb, List, map, length, Some, None, Option, IsSome, MatchOption, sym, refl, ap, ◌∙◌, subst, arith}
 use Rattle.std.proofs.lemmas.Bool.{and_parts, ltb-true}
 use Rattle.fabric.specs.Marks.{Marks}
+use Rattle.node.specs.declared.node.Node.{Node}
+use Rattle.node.specs.declared.types.NodeValues.{NodeValues}
 use Rattle.node.specs.Rules.{makes_node}
 use Rattle.ring.specs.declared.faults.RingFault.{RingFault}
 use Rattle.ring.specs.declared.faults.RingFault.TheVariants.{Count, Unlawful, NoStation}
@@ -75,3 +77,8 @@ row_refusal ring e h = nowhere_is (count_fits (length ring)) (lawful_row ring) e
 pub lawful_node : (ring : List Seat) → lawful_row ring ≡ true → (k : ℕ) → k < length ring → makes_node (seat ring k).values ≡ true
 unfolding all_nodes
 lawful_node ring h k l = below_at (λ k. makes_node (seat ring k).values) (length ring) (and_parts (all_nodes ring) (lawful (ring_settings ring)) h).0 k l
+
+-- so what makes a node of them gives one
+pub node_made : (Q : Node → Type 0) (v : NodeValues) (o : Option Node) → MatchOption o (makes_node v ≡ false) Q → makes_node v ≡ true → IsSome o
+node_made Q v None h e = sym h ∙ e
+node_made Q v (Some n) h e = refl

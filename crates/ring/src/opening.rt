@@ -35,17 +35,12 @@ pub(crate) fn enter<F: Fabric + Copy>(
     requires { row_gate (view F.Fabric.marks row.now) ≡ None }
     ensures { Results.MatchResult result (Opened F.Fabric.marks row.now station) (λ e. gate (view F.Fabric.marks row.now) station ≡ Some e) }
 {
-    if station >= row.len() {
-        return Err(RingFault::NoStation);
-    }
-    let at = row[station];
-    match Node::from_values(at.values) {
-        Some(node) => Ok(Live {
-            node,
-            fabric: at.fabric,
-        }),
-        None => unreachable(),
-    }
+    let at = row.get(station).ok_or(RingFault::NoStation)?;
+    let node = Node::from_values(at.values).unwrap();
+    Ok(Live {
+        node,
+        fabric: at.fabric,
+    })
 }
 
 // 14, 15, 16: a station, where the row is lawful and has it.
@@ -63,8 +58,7 @@ pub(crate) fn open<F: Fabric + Copy>(
 pub(crate) fn held(answer: Result<(), NodeFault>) -> Result<(), RingFault>
     ensures { (p : Option ℕ) → told_cause p result ≡ told_at p answer }
 {
-    answer?;
-    Ok(())
+    Ok(answer?)
 }
 
 fn port_of(cause: RingFault, called: Option<u8>) -> Option<u8>
@@ -99,14 +93,10 @@ pub(crate) fn close<F: Copy>(
     ensures answer { told_ring result ≡ placed_at station (told_cause called answer) }
     ensures row { row.new ≡ (if is_ok answer then slice_set row.old station (written after) else row.old) }
 {
-    match answer {
-        Ok(()) => {
-            row[station] = Station {
-                values: after.node.values,
-                fabric: after.fabric,
-            };
-            Ok(())
-        }
-        Err(cause) => Err(at_station(station, called, cause)),
-    }
+    answer.map_err(|cause| at_station(station, called, cause))?;
+    row[station] = Station {
+        values: after.node.values,
+        fabric: after.fabric,
+    };
+    Ok(())
 }

@@ -27,10 +27,8 @@ fn start<F: Fabric>(station: &mut Station<F>, settings: Settings)
     ensures seen { seat_of F.Fabric.marks station.new ≡ fresh (seat_of F.Fabric.marks station.old) settings }
     ensures host { F.Fabric.kept station.new.fabric ≡ F.Fabric.kept station.old.fabric }
 {
-    match Node::set_up(settings, &mut station.fabric) {
-        Ok(node) => station.values = node.values,
-        Err(_) => unreachable(),
-    }
+    let node = Node::set_up(settings, &mut station.fabric).unwrap();
+    station.values = node.values;
 }
 
 // By a number, since of a slice that is written through an adapter of `iter_mut` a proof knows nothing.

@@ -1,17 +1,17 @@
-use Rattle.std.proofs.Common.{◌<◌, length, sym, ap, ◌∙◌, subst, arith}
-use Rattle.std.proofs.lemmas.Bool.{true≢false}
+use Rattle.std.proofs.Common.{◌≡◌, ◌<◌, length, get_or, IsSome, Some, None, sym, ap, ◌∙◌, subst, rules}
 use Rattle.node.specs.Rules.{makes_node}
 use Rattle.ring.specs.Row.{view}
 use Rattle.ring.proofs.Views.{seat_read, view_length}
-use Rattle.ring.proofs.Gates.{open_counts, lawful_node}
+use Rattle.ring.proofs.Gates.{lawful_node, node_made, open_counts}
 use Rattle.ring.proofs.opening.enter.Goals as goal
 
-pub unreachable-requires : goal.unreachable-requires
-unreachable-requires g c =
+pub unwrap-node-requires : goal.unwrap-node-requires
+unwrap-node-requires g c =
     let marks = g.F.Fabric.marks in
     let row = c.args.row.now in
     let i = c.args.station in
-    let l : i < length row = omega arith in
-    let at = seat_read marks row i c.index-row-station.result l c.index-row-station.is in
+    let x = c.in_ok-at.at.now in
+    let l : i < length row = search rules in
+    let is : x ≡ get_or row i x = search rules in
     let ok = lawful_node (view marks row) (open_counts (view marks row) c.requires).1 i (subst (λ n. i < n) (sym (view_length marks row)) l) in
-    true≢false (sym ok ∙ ap (λ s. makes_node s.values) at ∙ c.in-None.ensures)
+    node_made _ x.values c.from_values.result c.from_values.ensures (ap (λ s. makes_node s.values) (sym (seat_read marks row i x l is)) ∙ ok)
