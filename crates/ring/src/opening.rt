@@ -71,7 +71,7 @@ fn port_of(cause: RingFault, called: Option<u8>) -> Option<u8>
     }
 }
 
-fn at_station(station: usize, called: Option<u8>, cause: RingFault) -> RingRefusal
+pub(crate) fn at_station(station: usize, called: Option<u8>, cause: RingFault) -> RingRefusal
     ensures { ring_refusal result ≡ with_station station (cause_at called cause) }
 {
     RingRefusal {

@@ -10,6 +10,7 @@ ghost use Rattle.ring.specs.SetUp.{SetsUp, fresh};
 
 use crate::faults::{RingFault, RingRefusal};
 use crate::lawful::{are_lawful, count_fits};
+use crate::opening::at_station;
 use crate::resting::node_laws;
 use crate::station::Station;
 use fabric::Fabric;
@@ -56,11 +57,7 @@ pub fn set_up<F: Fabric + Copy>(
         return Err(RingFault::Count.into());
     }
     if let Some(station) = first_at_fault(settings) {
-        return Err(RingRefusal {
-            station: Some(station),
-            port: None,
-            cause: RingFault::Node(NodeFault::Settings),
-        });
+        return Err(at_station(station, None, NodeFault::Settings.into()));
     }
     if !are_lawful(settings) {
         return Err(RingFault::Unlawful.into());

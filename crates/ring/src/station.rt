@@ -2,7 +2,7 @@
 use node::{Node, NodeValues};
 
 // A node's plain values together with the fabric that it drives.
-#[derive(Clone, Copy)]
+#[derive(Clone, Copy, PartialEq, Eq, Debug)]
 pub struct Station<F> {
     pub values: NodeValues,
     pub fabric: F,
