@@ -1,7 +1,7 @@
 -- From what a node's call does to what the ring's call does. Assumes nothing.
 use Rattle.std.proofs.Common.{◌≡◌, ℕ, zero, suc, ◌<◌, Bool, true, false, cond, ltb, List, [], ◌∷◌, length, get_or, set, is_ok, Some, None, Ok, Err, Option, Result, sym, refl, ap, ◌∙◌, subst, arith, get_or-set_other}
 use Rattle.std.proofs.lemmas.Bool.{true≢false}
-use Rattle.std.proofs.lemmas.List.{get_or-map}
+use Rattle.std.proofs.lemmas.List.{get_or-map, set-get_or}
 use Rattle.fabric.specs.Marks.{Marks}
 use Rattle.frame.specs.Refusals.{Refusal, Answer, gave, refused}
 use Rattle.frame.specs.declared.types.Message.{Message}
@@ -77,11 +77,6 @@ quiet ring s (frame b) = λ e. (quiet_frame s.values s.marks (ltb (length b) 55)
 
 -- ---- the ring
 
-set_same : {X : Type 0} (xs : List X) (i : ℕ) (d : X) → set xs i (get_or xs i d) ≡ xs
-set_same [] i d = refl
-set_same (x ∷ xs) zero d = refl
-set_same (x ∷ xs) (suc i) d = ap (λ ys. x ∷ ys) (set_same xs i d)
-
 seat_is : (v : NodeValues) (m : Marks) (s : Seat) → s.values ≡ v → s.marks ≡ m → s ≡ record { values = v; marks = m }
 seat_is v m s e f = ap (λ x. record { values = x; marks = s.marks }) e ∙ ap (λ y. record { values = v; marks = y }) f
 
@@ -90,7 +85,7 @@ pub unmoved : (ring : List Seat) (i : ℕ) (a : Ask) → is_gave (step_at (call 
     → set ring i (seat_after (call i a) ring) ≡ ring
 unmoved ring i a e =
     let same = quiet ring (seat ring i) a e in
-    ap (λ t. set ring i t) (sym (seat_is _ _ (seat ring i) (sym same.0) (sym same.1))) ∙ set_same ring i blank
+    ap (λ t. set ring i t) (sym (seat_is _ _ (seat ring i) (sym same.0) (sym same.1))) ∙ set-get_or ring i blank
 
 -- a station that keeps what its fabric keeps leaves all kept
 pub keeps_set : {F : Type 0} (kept : F → List (List ℕ)) (row : List (Station F)) (i : ℕ) (x : Station F)

@@ -1,18 +1,17 @@
 -- A row that may be called stays so, whatever is called. Assumes nothing.
 use Rattle.std.proofs.Common.{◌≡◌, ℕ, ◌<◌, Bool, true, List, length, set, None, sym, ap, ◌∙◌, subst, ⊎_elim, length-set, get_or-set_other, get_or-set_same}
-use lib.ListN.{length-map}
-use Rattle.std.proofs.lemmas.List.{get_or-map}
+use Rattle.std.proofs.lemmas.List.{get_or-map, map-set, set-get_or}
 use Rattle.std.proofs.lemmas.Bool.{cases_eq, and_parts, and_from}
 use Rattle.fabric.specs.Marks.{Marks}
+use Rattle.node.specs.declared.types.Settings.{Settings}
 use Rattle.node.specs.Rules.{makes_node}
 use Rattle.ring.specs.declared.station.Station.{Station}
 use Rattle.ring.specs.Calls.{seat_after, Ask, Call, call, after, gate, is_gave, row_gate, step_at, RingStep}
 use Rattle.ring.specs.NodeLaws.{NodeLaws}
-use Rattle.ring.specs.Row.{Seat, view, seat, setting, blank, no_settings, all_nodes, count_fits, lawful, lawful_row, ring_settings}
+use Rattle.ring.specs.Row.{Seat, view, seat, blank, no_settings, all_nodes, count_fits, lawful, lawful_row, ring_settings}
 use Rattle.ring.proofs.Below.{below_from}
 use Rattle.ring.proofs.Gates.{counts_open, open_counts, open_row, lawful_node}
 use Rattle.ring.proofs.Law.{by_answer}
-use Rattle.ring.proofs.Starting.{settings_like}
 use Rattle.ring.proofs.Taking.{Takes, takes}
 
 module _ (laws : NodeLaws) where
@@ -39,15 +38,8 @@ module _ (laws : NodeLaws) where
 
     same_settings : ring_settings moved ≡ ring_settings ring
     same_settings =
-        let m : length (ring_settings ring) ≡ length ring = length-map ring (λ s. s.values.settings) in
-        settings_like moved (ring_settings ring) (length-set ring i _ ∙ sym m)
-        (λ k l. let n : k < length ring = subst (λ t. k < t) (length-set ring i _) l in
-        let here : (j : ℕ) → j < length ring → setting (ring_settings ring) j ≡ (seat ring j).values.settings = λ j h. get_or-map (λ s. s.values.settings) ring j blank no_settings h in
-        ⊎_elim
-        (λ (q : k ≡ i). subst (λ j. (seat moved j).values.settings ≡ setting (ring_settings ring) j) (sym q)
-        (ap (λ (s : Seat). s.values.settings) (get_or-set_same ring i _ blank within) ∙ taking.settings ∙ sym (here i within)))
-        (λ (q : k ≡ i → ⊥). ap (λ (s : Seat). s.values.settings) (get_or-set_other ring i k _ blank q) ∙ sym (here k n))
-        (cases_eq k i))
+        let of : Seat → Settings = λ s. s.values.settings in
+        map-set of ring i _ ∙ ap (λ g. set (ring_settings ring) i g) (taking.settings ∙ sym (get_or-map of ring i blank no_settings within)) ∙ set-get_or (ring_settings ring) i no_settings
 
     nodes : all_nodes moved ≡ true
     unfolding all_nodes

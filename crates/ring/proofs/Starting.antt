@@ -1,8 +1,7 @@
 -- Stations set up one after the other. Assumes nothing.
 use Rattle.std.proofs.Common.{◌≡◌, ℕ, zero, suc, ◌+◌, ◌<◌, ◌≤◌, Bool, true, false, cond, not, ltb, ◌≢◌, List, [], ◌∷◌, length, get_or, set, Some, None, Option, sym, refl, ap, ◌∙◌, subst, ⊎_elim, arith, get_or-set_other, get_or-set_same}
-use lib.ListN.{length-map}
 use Rattle.std.specs.Option.{option_map}
-use Rattle.std.proofs.lemmas.List.{get_or-map, get_or_default, same_lists}
+use Rattle.std.proofs.lemmas.List.{get_or-map}
 use Rattle.std.specs.List.{position, position_or_len}
 use Rattle.std.proofs.lemmas.Bool.{cases_eq, cases_lt, lt-ltb, le-ltb, not-false}
 use Rattle.fabric.specs.Marks.{Marks}
@@ -10,7 +9,7 @@ use Rattle.frame.specs.Highest.{first_with}
 use Rattle.node.specs.declared.types.Settings.{Settings}
 use Rattle.node.specs.Rules.{settings_ok}
 use Rattle.ring.specs.declared.station.Station.{Station}
-use Rattle.ring.specs.Row.{Seat, seat_of, view, seat, setting, blank, ring_settings, no_settings}
+use Rattle.ring.specs.Row.{Seat, seat_of, view, seat, setting, blank, no_settings}
 use Rattle.ring.specs.SetUp.{fresh}
 use Rattle.ring.proofs.Views.{view_set}
 
@@ -69,12 +68,3 @@ module _ (old ring ring' : List Seat) (ss : List Settings) (k : ℕ) (g : Settin
   more_above j l =
       let ne : j ≢ k = omega arith in
       ap (λ r. seat r j) is ∙ get_or-set_other ring k j _ _ ne ∙ above j (omega arith)
-
--- ---- a row that was set up is lawful
-
-pub settings_like : (ring : List Seat) (ss : List Settings) → length ring ≡ length ss → ((k : ℕ) → k < length ring → (seat ring k).values.settings ≡ setting ss k) → ring_settings ring ≡ ss
-settings_like ring ss n h =
-    let m : length (ring_settings ring) ≡ length ring = length-map ring (λ s. s.values.settings) in
-    same_lists (ring_settings ring) ss (m ∙ n)
-    (λ k d l. let i : k < length ring = subst (λ t. k < t) m l in
-    get_or-map (λ s. s.values.settings) ring k blank d i ∙ h k i ∙ get_or_default ss k no_settings d (subst (λ t. k < t) n i))

@@ -1,4 +1,4 @@
-use Rattle.std.proofs.Common.{◌≡◌, ◌<◌, length, get_or, IsSome, Some, None, sym, ap, ◌∙◌, subst, rules}
+use Rattle.std.proofs.Common.{◌≡◌, ◌<◌, length, get_or, sym, ap, ◌∙◌, subst, rules}
 use Rattle.node.specs.Rules.{makes_node}
 use Rattle.ring.specs.Row.{view}
 use Rattle.ring.proofs.Views.{seat_read, view_length}
