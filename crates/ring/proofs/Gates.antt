@@ -10,7 +10,7 @@ use Rattle.ring.specs.declared.faults.RingFault.TheVariants.{Count, Unlawful, No
 use Rattle.ring.specs.declared.station.Station.{Station}
 use Rattle.ring.specs.Faults.{cause_at, ring_refusal, unplaced}
 use Rattle.ring.specs.Row.{Seat, view, seat, count_fits, lawful, all_nodes, ring_settings, lawful_row}
-use Rattle.ring.specs.Calls.{gate, row_gate}
+use Rattle.ring.specs.Calls.{gate, row_gate, then_station}
 use Rattle.ring.proofs.Views.{view_length, settings_view}
 use Rattle.ring.proofs.Below.{below_at}
 
@@ -19,31 +19,15 @@ checked few together = cond few (cond together None (Some Unlawful)) (Some Count
 
 -- 14 and 15 of a row, as the code asks them
 module _ {F : Type 0} (marks : F → Marks) (row : List (Station F)) where
-  at_length : row_gate (view marks row) ≡ checked (count_fits (length row)) (lawful_row (view marks row))
-  at_length = ap (λ n. checked (count_fits n) (lawful_row (view marks row))) (view_length marks row)
-
   pub row_judged : count_fits (length row) ≡ true → (a b : Bool) → a ≡ all_nodes (view marks row) → b ≡ lawful (map (λ s. s.values.settings) row)
       → row_gate (view marks row) ≡ cond (a && b) None (Some Unlawful)
   row_judged h a b n l =
-      at_length ∙ ap (λ c. checked c (lawful_row (view marks row))) h
+      ap (λ n. checked (count_fits n) (lawful_row (view marks row))) (view_length marks row) ∙ ap (λ c. checked c (lawful_row (view marks row))) h
       ∙ ap (λ c. checked true (all_nodes (view marks row) && c)) (ap lawful (settings_view marks row) ∙ sym l)
       ∙ ap (λ c. checked true (c && b)) (sym n)
 
--- 16 comes after them
-abbrev then_station : Option RingFault → Bool → Option RingFault
-then_station None b = cond b None (Some NoStation)
-then_station (Some e) b = Some e
-
-gates : (a b c : Bool) → cond a (cond b (cond c None (Some NoStation)) (Some Unlawful)) (Some Count) ≡ then_station (cond a (cond b None (Some Unlawful)) (Some Count)) c
-gates true true c = refl
-gates true false c = refl
-gates false b c = refl
-
-gate_is : (ring : List Seat) (i : ℕ) → gate ring i ≡ then_station (row_gate ring) (ltb i (length ring))
-gate_is ring i = gates (count_fits (length ring)) (lawful_row ring) (ltb i (length ring))
-
 pub gate_shut : (ring : List Seat) (i : ℕ) (e : RingFault) → row_gate ring ≡ Some e → gate ring i ≡ Some e
-gate_shut ring i e h = gate_is ring i ∙ ap (λ o. then_station o (ltb i (length ring))) h
+gate_shut ring i e h = ap (λ o. then_station o (ltb i (length ring))) h
 
 -- what an open gate shows
 if_none : {X : Type 0} (b : Bool) (o : Option X) (e : X) → cond b o (Some e) ≡ None → (b ≡ true) × (o ≡ None)
@@ -58,11 +42,14 @@ open_counts ring h =
 pub counts_open : (ring : List Seat) → count_fits (length ring) ≡ true → lawful_row ring ≡ true → row_gate ring ≡ None
 counts_open ring a b = rw (a, b)
 
+past_row : (o : Option RingFault) (b : Bool) → then_station o b ≡ None → (o ≡ None) × (b ≡ true)
+past_row None b h = (refl, (if_none b None NoStation h).0)
+past_row (Some e) b h = absurd (let z : ◌≡◌ {A = ℕ} 0 1 = cc in omega arith)
+
 pub open_row : (ring : List Seat) (i : ℕ) → gate ring i ≡ None → (row_gate ring ≡ None) × (i < length ring)
 open_row ring i h =
-    let a = if_none (count_fits (length ring)) (cond (lawful_row ring) (cond (ltb i (length ring)) None (Some NoStation)) (Some Unlawful)) Count h in
-    let b = if_none (lawful_row ring) (cond (ltb i (length ring)) None (Some NoStation)) Unlawful a.1 in
-    (counts_open ring a.0 b.0, ltb-true i (length ring) (if_none (ltb i (length ring)) None NoStation b.1).0)
+    let a = past_row (row_gate ring) (ltb i (length ring)) h in
+    (a.0, ltb-true i (length ring) a.1)
 
 -- a refusal by 14 or 15 names no place
 nowhere_is : (a b : Bool) (e : RingFault) → cond a (cond b None (Some Unlawful)) (Some Count) ≡ Some e → ring_refusal (unplaced e) ≡ cause_at None e

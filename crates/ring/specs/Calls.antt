@@ -33,12 +33,13 @@ pub record Call : Type 0 where
 abbrev pub row_gate : List Seat → Option RingFault
 row_gate ring = cond (count_fits (length ring)) (cond (lawful_row ring) None (Some Unlawful)) (Some Count)
 
--- 14, 15, 16
+-- 16, after them
+abbrev pub then_station : Option RingFault → Bool → Option RingFault
+then_station None there = cond there None (Some NoStation)
+then_station (Some e) there = Some e
+
 abbrev pub gate : List Seat → ℕ → Option RingFault
-gate ring i =
-    cond (count_fits (length ring))
-    (cond (lawful_row ring) (cond (nat_lt i (length ring)) None (Some NoStation)) (Some Unlawful))
-    (Some Count)
+gate ring i = then_station (row_gate ring) (nat_lt i (length ring))
 
 -- 17: no station has the ID that the message names
 abbrev pub names_nobody : List Seat → NodeId → Bool

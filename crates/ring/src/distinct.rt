@@ -5,6 +5,7 @@ ghost use Rattle.ring.specs.Row.{all_below, new_id, setting};
 
 use crate::settled::Settled;
 
+// By a number, since of a slice that is written through an adapter of `iter_mut` a proof knows nothing.
 fn copy_ids<S: Settled>(row: &[S], ids: &mut [u64])
     requires { length ids.old ≡ length row.now }
     ensures len { length ids.new ≡ length row.now }
