@@ -18,14 +18,6 @@ impl From<NodeId> for u64 {
     }
 }
 
-impl NodeId {
-    pub fn number(self) -> u64
-        ensures { result ≡ id_number self }
-    {
-        u64::from(self)
-    }
-}
-
 impl Ranked for NodeId {
     ghost rank = { id_number };
 

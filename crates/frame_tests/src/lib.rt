@@ -55,7 +55,7 @@ mod tests {
         let Ok(message) = read_frame(&worked_frame(), CHANNEL) else {
             return Err(Fail::new("refused"));
         };
-        assert_eq!(rt; message.node.number(), 0x0000_5E00_5301);
+        assert_eq!(rt; u64::from(message.node), 0x0000_5E00_5301);
         assert_eq!(rt;
             message.body,
             Body::Signal {

@@ -139,7 +139,7 @@ impl NodeValues {
     fn is_own(self, node: NodeId) -> bool
         ensures { result ≡ is_own self node }
     {
-        node.number() == self.settings.id.number()
+        u64::from(node) == u64::from(self.settings.id)
     }
 
     // An owner that hears NR,RB of another is not alone.
@@ -250,7 +250,7 @@ impl NodeValues {
 fn same_pair(a: (NodeId, bool), b: (NodeId, bool)) -> bool
     ensures { result ≡ same_pair a b }
 {
-    a.0.number() == b.0.number() && a.1 == b.1
+    u64::from(a.0) == u64::from(b.0) && a.1 == b.1
 }
 
 impl Heard {

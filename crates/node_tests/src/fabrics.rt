@@ -41,7 +41,7 @@ fn a_frame(rt: HostRuntime) -> Result<(), Fail> {
     let Ok(message) = station.node.question(&station.fabric, 1, &worked_frame()) else {
         return Err(Fail::new("refused"));
     };
-    assert_eq!(rt; message.node.number(), 0x0000_5E00_5301);
+    assert_eq!(rt; u64::from(message.node), 0x0000_5E00_5301);
     assert_eq!(rt;
         message.body,
         Body::Signal {
@@ -61,7 +61,7 @@ fn a_frame(rt: HostRuntime) -> Result<(), Fail> {
         station.seen(),
         Seen('B', Marked::NoPort, Sends::Nothing, STILL, FLUSH)
     );
-    assert_eq!(rt; station.node.values.pair1.0.number(), 0x0000_5E00_5301);
+    assert_eq!(rt; u64::from(station.node.values.pair1.0), 0x0000_5E00_5301);
     assert!(rt; station.node.values.pair1.1);
     station.drives_well(&rt, 1);
     Ok(())

@@ -20,12 +20,7 @@ impl fmt::Display for Answer {
 }
 
 // One line: a call at a port, and what it answers.
-fn tell(
-    rt: &HostRuntime,
-    call: &str,
-    port: u8,
-    answer: Result<(), FabricFault>,
-) -> io::Result<()> {
+fn tell(rt: &HostRuntime, call: &str, port: u8, answer: Result<(), FabricFault>) -> io::Result<()> {
     let answer = Answer(answer);
     println!(rt; "  {call} port {port}: {answer}")
 }
