@@ -34,7 +34,8 @@ fn without_ring(entry: Option<Record>) -> Option<Record>
     entry.filter(|record| record.at == Side::OffRing)
 }
 
-// The first place where this address stands.
+// The first place where this address stands. (That a place is within the table is said of each answer: a number has no type
+// that could say it of an array's length.)
 pub(crate) fn place_of(records: &[Option<Record>], address: Address) -> Option<usize>
     ensures place { result ≡ position_from (holds address) 0 records.now }
     ensures within { IfSome result (λ i. i < length records.now) }

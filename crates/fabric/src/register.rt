@@ -50,6 +50,7 @@ impl RegisterFabric {
     }
 }
 
+// A method with a clause of its own repeats those of the trait, as the language asks.
 impl Fabric for RegisterFabric {
     ghost marks = { λ f. word_marks f.word };
 

@@ -31,7 +31,7 @@ pub struct Record {
     pub at: Side,
 }
 
-// A place without a record is free.
+// A place without a record is free. The rules fix 64 places, and no heap is used, so it is an array that is searched and no map.
 #[derive(Clone, Copy, PartialEq, Eq, Debug)]
 pub struct TableFabric {
     pub blocked: Ports,
@@ -130,6 +130,7 @@ impl TableFabric {
     }
 }
 
+// A method with a clause of its own repeats those of the trait, as the language asks.
 impl Fabric for TableFabric {
     ghost marks = { λ t. table_marks t };
 

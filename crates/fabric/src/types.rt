@@ -3,7 +3,7 @@ ghost use Rattle.std.specs.Prelude.{◌≡◌, Some};
 ghost use Rattle.fabric.specs.Faults.{refusal};
 ghost use Rattle.fabric.specs.Marks.{done_answer, port_answer, with_mark};
 
-// A mark for each ring port.
+// A mark for each ring port: two fields and no array, so that no index can be out of range.
 #[derive(Clone, Copy, PartialEq, Eq, Debug)]
 pub struct Ports {
     pub p0: bool,
@@ -52,7 +52,7 @@ pub enum FabricFault {
 }
 
 impl FabricFault {
-    // The number of the refusal.
+    // The number of the refusal: no conversion, since it loses the port.
     pub fn number(self) -> u8
         ensures value { result ≡ (refusal self).number }
     {

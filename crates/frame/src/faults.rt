@@ -1,4 +1,4 @@
-// What a refusal tells: its number, and the octet that decided.
+// What a refusal tells: its number, and the octet that decided. Neither is a conversion, since each alone loses the other.
 ghost use Rattle.std.specs.Prelude.{◌≡◌};
 ghost use Rattle.frame.specs.Faults.{refusal};
 

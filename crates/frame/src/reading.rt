@@ -88,7 +88,7 @@ fn read_data(tlv_offset: u8, data: &[u8]) -> Result<Message, FrameFault>
     Ok(Message { node, body })
 }
 
-// What the request octet and the status octet say together; none for a reserved request.
+// What the request octet and the status octet say together; none for a reserved request. (Of two octets, so no `TryFrom`.)
 fn body_of(request: u8, status: u8) -> Option<Body>
     ensures { result ≡ body_of request status }
 {
@@ -114,7 +114,7 @@ fn is_set(octet: u8, weight: u8) -> bool
     octet / weight % 2 == 1
 }
 
-// The request that a code of four bits names, given the RB bit.
+// The request that a code of four bits names, given the RB bit, without which the code says too little for a `TryFrom`.
 fn request_of(code: u8, rb: bool) -> Option<Request>
     ensures { result ≡ request_of code rb }
 {

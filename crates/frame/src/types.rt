@@ -23,7 +23,8 @@ pub enum Request {
 }
 
 // A signal repeats a station's request with two bits: DNF (do not flush) and BPR (the blocked port is port 1).
-// An event only asks to flush, and has no bits: so no message can hold what no frame can carry.
+// An event only asks to flush, and has no bits: so no message can hold what no frame can carry. It is a message of its own
+// kind and no missing signal, so this is no Option.
 #[derive(Clone, Copy, PartialEq, Eq, Debug)]
 pub enum Body {
     Event,

@@ -126,6 +126,7 @@ fn status_octet(body: Body) -> u8
     }
 }
 
+// Half of what a request is on the wire; RB is the other half, so neither is a conversion.
 fn code_of(request: Request) -> u8
     ensures { result ≡ (coded request).code }
 {

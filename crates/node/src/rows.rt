@@ -1,4 +1,5 @@
-// Table 10-2 of ITU-T G.8032 on plain values: the action parts, then the rows of local requests.
+// Table 10-2 of ITU-T G.8032 on plain values: the action parts, then the rows of local requests. A row is a match on the
+// state and calls the parts that stand in the table, which is a closed list, so it holds no functions.
 ghost use Rattle.std.specs.Prelude.{◌≡◌};
 ghost use Rattle.node.specs.Rows.{clear_fail, clear_row, fail_row, force_more, force_new, force_row, manual_row, newly_failed, pend, present, release, repair_row, repaired, rest, seize_failed, seize_ports, still, stopped, yield_to};
 

@@ -10,6 +10,7 @@ use crate::types::{Delay, Due, NodeValues, Outcome, Settings, State, Timers};
 use fabric::Ports;
 use frame::{NodeId, Request};
 
+// A pair as the rules have it at start: zeros, and no missing pair, since a message of ID 0 without BPR is equal to it.
 pub(crate) const ZERO_PAIR: (NodeId, bool) = (
     NodeId {
         octets: [0, 0, 0, 0, 0, 0],

@@ -43,14 +43,16 @@ pub struct Commands {
     pub manual: Option<Port>,
 }
 
-// The message that the node sends, but for its BPR, which follows from the ports.
+// The message that the node sends, but for its BPR, which follows from the ports. DNF stands beside the request and not in
+// it, so that plain values can hold what breaks the rule that nothing sent has no DNF, and be refused for it.
 #[derive(Clone, Copy, PartialEq, Eq, Debug)]
 pub struct Sending {
     pub request: Option<Request>,
     pub dnf: bool,
 }
 
-// Ticks left of guard, wait to restore (WTR) and wait to block (WTB); 0 where a timer does not run.
+// Ticks left of guard, wait to restore (WTR) and wait to block (WTB); 0 where a timer does not run. The rules count and bound
+// them as numbers down to 0: an Option would give the timer that has run out two forms.
 #[derive(Clone, Copy, PartialEq, Eq, Debug)]
 pub struct Timers {
     pub guard: u16,
@@ -83,6 +85,7 @@ pub struct NodeValues {
     pub sending: Sending,
     pub timers: Timers,
     pub due: Due,
+    // A tuple for each port, as the rules name them.
     pub pair0: (NodeId, bool),
     pub pair1: (NodeId, bool),
     pub mismatch: bool,

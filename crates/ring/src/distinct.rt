@@ -1,4 +1,4 @@
-// Distinct IDs, by a sort of a copy.
+// Distinct IDs, by a sort of a copy; in an array for the most stations, since no heap is used.
 ghost use Rattle.std.specs.Prelude.{◌≡◌, ℕ, ◌<◌, ◌≤◌, map, length, slice_index};
 ghost use Rattle.frame.specs.Ids.{id_number};
 ghost use Rattle.ring.specs.Row.{all_below, new_id, setting};

@@ -1,4 +1,5 @@
-// What a ring's refusal tells: number and octet of its cause; its places stand beside it.
+// What a ring's refusal tells: number and octet of its cause; its places stand beside it. Neither is a conversion, since
+// each alone loses the other.
 ghost use Rattle.std.specs.Prelude.{◌≡◌, ℕ, Option};
 ghost use Rattle.ring.specs.Faults.{cause_at};
 

@@ -6,7 +6,8 @@ use std::alloc::{AllocError, Global};
 use std::fmt;
 use std::str::FromStr;
 
-// What a message is, in a script's word for it: an event, or the request of a signal.
+// What a message is, in a script's word for it: an event, or the request of a signal. An event is a kind of its own and no
+// missing request.
 #[derive(Clone, Copy, PartialEq, Eq, Debug)]
 enum Kind {
     Event,
