@@ -38,6 +38,7 @@ abbrev pub then_station : Option RingFault → Bool → Option RingFault
 then_station None there = cond there None (Some NoStation)
 then_station (Some e) there = Some e
 
+-- 14, 15, 16
 abbrev pub gate : List Seat → ℕ → Option RingFault
 gate ring i = then_station (row_gate ring) (nat_lt i (length ring))
 
@@ -92,7 +93,7 @@ step_at c ring = step_of ring (seat ring c.station) c.asks
 abbrev pub ring_answer : Call → List Seat → Answer (Unit {0})
 ring_answer c ring = answered (gate ring c.station) (placed_at c.station (step_at c ring).answer)
 
--- the row after the call: its station as the rules say, every other as it was
+-- the station after the call, as the rules say, and the row: every other as it was
 abbrev pub seat_after : Call → List Seat → Seat
 seat_after c ring = record { values = (step_at c ring).values; marks = (step_at c ring).marks }
 
