@@ -1,4 +1,9 @@
 // Refusals as an answer tells them.
+ghost use Rattle.std.specs.Prelude.{◌≡◌};
+ghost use Rattle.fabric.specs.Faults.{refusal as fabric_refusal};
+ghost use Rattle.frame.specs.Faults.{refusal as frame_refusal};
+ghost use Rattle.frame.specs.Refusals.{Refusal as Told};
+
 use fabric::FabricFault;
 use frame::FrameFault;
 use std::fmt;
@@ -7,15 +12,22 @@ use std::fmt;
 pub trait Refusal {
     const LAYER: &'static str;
 
-    fn number(&self) -> u8;
+    ghost told: { Self → Told };
 
-    fn port(&self) -> Option<u8>;
+    fn number(&self) -> u8
+        ensures { result ≡ (told self.now).number };
 
-    fn octet(&self) -> Option<usize>;
+    fn port(&self) -> Option<u8>
+        ensures { result ≡ (told self.now).port };
+
+    fn octet(&self) -> Option<usize>
+        ensures { result ≡ (told self.now).octet };
 }
 
 impl Refusal for FrameFault {
     const LAYER: &'static str = "frame";
+
+    ghost told = { frame_refusal };
 
     fn number(&self) -> u8 {
         FrameFault::number(*self)
@@ -32,6 +44,8 @@ impl Refusal for FrameFault {
 
 impl Refusal for FabricFault {
     const LAYER: &'static str = "fabric";
+
+    ghost told = { fabric_refusal };
 
     fn number(&self) -> u8 {
         FabricFault::number(*self)

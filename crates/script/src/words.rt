@@ -1,6 +1,6 @@
 // Octets as text: two hex digits each, without blanks, and `-` for none.
 ghost use Rattle.std.specs.Prelude.{◌≡◌, ℕ, ◌<◌, IfSome};
-ghost use Rattle.script.specs.Words.{hex_digit, hex_octet};
+ghost use Rattle.script.specs.Words.{hex_digit, hex_octet, id_read};
 
 use frame::NodeId;
 use std::alloc::{AllocError, Global};
@@ -60,15 +60,20 @@ pub struct NoId;
 impl FromStr for Id {
     type Err = NoId;
 
+    ghost from_str_gives = { λ word read. read ≡ id_read word };
+
     fn from_str(word: &str) -> Result<Id, NoId> {
-        let digits = word.as_bytes();
-        if digits.len() != 12 {
+        let [a, b, c, d, e, f, g, h, i, j, k, l] = word.as_bytes() else {
             return Err(NoId);
-        }
-        let mut octets = [0; 6];
-        for (octet, pair) in octets.iter_mut().zip(digits.chunks_exact(2)) {
-            *octet = octet_of(pair[0], pair[1]).ok_or(NoId)?;
-        }
+        };
+        let octets = [
+            octet_of(*a, *b).ok_or(NoId)?,
+            octet_of(*c, *d).ok_or(NoId)?,
+            octet_of(*e, *f).ok_or(NoId)?,
+            octet_of(*g, *h).ok_or(NoId)?,
+            octet_of(*i, *j).ok_or(NoId)?,
+            octet_of(*k, *l).ok_or(NoId)?,
+        ];
         Ok(Id(NodeId { octets }))
     }
 }
