@@ -4,7 +4,7 @@ ghost use Rattle.fabric.specs.Marks.{Marks, blocked_answer, taught_answer, done_
 
 use super::types::FabricFault;
 
-// Ring ports are 0 and 1. A port is a number here, and in the calls above, because any other number has a refusal of its
+// Ring ports are 0 and 1. A port is a number here, and in the layers above, because any other number has a refusal of its
 // own, and changes nothing.
 pub trait Fabric {
     // What the fabric means.

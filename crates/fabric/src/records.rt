@@ -6,28 +6,28 @@ ghost use Rattle.fabric.specs.Table.{freed, holds, is_free, of_port, side_number
 
 use super::table::{Address, Record, Side};
 
-// Whether this address stands there.
+// Whether an entry, a place of the table with what stands in it, has this address.
 fn holds(entry: Option<Record>, address: Address) -> bool
     ensures { result ≡ holds address entry }
 {
     entry.is_some_and(|record| record.address == address)
 }
 
-// Where the record there says that its address is.
+// Where an entry says that its address is.
 pub(crate) fn side(entry: Option<Record>) -> Option<Side>
     ensures { result ≡ side_of entry }
 {
     entry.map(|record| record.at)
 }
 
-// Whether a record of this side stands there.
+// Whether an entry has an address of this side.
 fn is_of(entry: Option<Record>, at: Side) -> bool
     ensures { result ≡ of_port (side_number at) entry }
 {
     side(entry) == Some(at)
 }
 
-// What flush leaves there.
+// What flush leaves of an entry.
 fn without_ring(entry: Option<Record>) -> Option<Record>
     ensures { result ≡ freed entry }
 {

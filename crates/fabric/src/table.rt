@@ -74,10 +74,7 @@ impl TableFabric {
         ensures single { Single result.records }
     {
         TableFabric {
-            blocked: Ports {
-                p0: false,
-                p1: false,
-            },
+            blocked: Ports::NONE,
             records: [None; 64],
         }
     }

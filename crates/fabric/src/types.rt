@@ -22,6 +22,12 @@ pub(crate) fn of_port<T: Copy>(port: u8, zero: T, one: T) -> Result<T, FabricFau
 }
 
 impl Ports {
+    // A mark at neither port.
+    pub const NONE: Ports = Ports {
+        p0: false,
+        p1: false,
+    };
+
     // The mark of a ring port.
     pub fn mark(self, port: u8) -> Result<bool, FabricFault>
         ensures { result ≡ port_answer port self.p0 self.p1 }
@@ -34,11 +40,7 @@ impl Ports {
         ensures answer { result ≡ done_answer port }
         ensures after { self.new ≡ with_mark self.old port on }
     {
-        match port {
-            0 => self.p0 = on,
-            1 => self.p1 = on,
-            _ => return Err(FabricFault::NoSuchPort { port }),
-        }
+        *self = of_port(port, Ports { p0: on, ..*self }, Ports { p1: on, ..*self })?;
         Ok(())
     }
 }

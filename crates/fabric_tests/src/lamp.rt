@@ -27,9 +27,6 @@ impl Fabric for LampFabric {
     }
 
     fn flush(&mut self) {
-        self.taught = Ports {
-            p0: false,
-            p1: false,
-        };
+        self.taught = Ports::NONE;
     }
 }

@@ -93,10 +93,7 @@ fn body_of(request: u8, status: u8) -> Option<Body>
     ensures { result ≡ body_of request status }
 {
     if request / 16 == EVENT {
-        if request % 16 == 0 {
-            return Some(Body::Event);
-        }
-        return None;
+        return (request % 16 == 0).then_some(Body::Event);
     }
     let request = request_of(request / 16, is_set(status, 128))?;
     Some(Body::Signal {

@@ -7,7 +7,7 @@ pub const FRAME_LENGTH: usize = 55;
 pub(crate) const EVENT: u8 = 14;
 
 // The 48-bit number of a station: six octets, the first highest.
-#[derive(Clone, Copy, PartialEq, Eq, Debug)]
+#[derive(Clone, Copy, Debug)]
 pub struct NodeId {
     pub octets: [u8; 6],
 }

@@ -28,8 +28,8 @@ pub struct Id(pub NodeId);
 
 impl fmt::Display for Id {
     fn fmt<W: fmt::Write>(&self, f: &mut fmt::Formatter<W>) -> fmt::Result {
-        let [a, b, c, d, e, g] = self.0.octets;
-        write!(f, "{a:02X}{b:02X}{c:02X}{d:02X}{e:02X}{g:02X}")
+        let hex = Hex(&self.0.octets);
+        write!(f, "{hex}")
     }
 }
 
