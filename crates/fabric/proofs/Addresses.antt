@@ -1,5 +1,5 @@
 -- Addresses that agree are one, and what a record holds. Assumes nothing.
-use Rattle.std.proofs.Common.{◌≡◌, ℕ, Bool, true, false, List, Some, None, refl, ap, ⊎_elim, arith}
+use Rattle.std.proofs.Common.{◌≡◌, ℕ, Bool, true, false, List, Some, None, refl, ap, ⊎_elim}
 use Rattle.std.proofs.lemmas.Bool.{cases_Bool}
 use Rattle.std.proofs.lemmas.Slice.Eq.{bytes_eq-Decides}
 use Rattle.fabric.specs.declared.table.Address.{Address}
@@ -21,9 +21,9 @@ same_is a b e = ap of_octets ((bytes_eq-Decides a.octets b.octets).0 e)
 
 -- a record that holds one address holds another where the two agree
 pub holds_like : (a b : Address) (r : Entry) → holds a r ≡ true → holds b r ≡ same_address a b
-holds_like a b None = λ e. let z : ◌≡◌ {A = ℕ} 0 1 = cc in absurd (omega arith)
+holds_like a b None = λ e. absurd cc
 holds_like a b (Some r) = λ e. ap (λ (x : Address). same_address x b) (same_is r.address a e)
 
 pub free_holds_none : (b : Address) (r : Entry) → is_free r ≡ true → holds b r ≡ false
 free_holds_none b None = λ e. refl
-free_holds_none b (Some r) = λ e. let z : ◌≡◌ {A = ℕ} 0 1 = cc in absurd (omega arith)
+free_holds_none b (Some r) = λ e. absurd cc

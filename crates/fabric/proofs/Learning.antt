@@ -16,13 +16,13 @@ use Rattle.fabric.proofs.Searches.{first_no, first_yes, put_there}
 
 -- a known address is found where its record now says
 found_moved : (a : Address) (s : Side) (rs : List Entry) → list_any (holds a) rs ≡ true → found_at a (put_first (holds a) (known a s) rs) ≡ Some s
-found_moved a s [] = λ h. let z : ◌≡◌ {A = ℕ} 0 1 = cc in absurd (omega arith)
+found_moved a s [] = λ h. absurd cc
 found_moved a s (r ∷ rs) = λ h.
     by_cases (holds a r) (λ e. simp (e, same_self a)) (λ e. simp e (found_moved a s rs (simp e at h)))
 
 -- a new address is found where its record says
 found_added : (a : Address) (s : Side) (rs : List Entry) → list_any (holds a) rs ≡ false → list_any is_free rs ≡ true → found_at a (put_first is_free (known a s) rs) ≡ Some s
-found_added a s [] = λ h k. let z : ◌≡◌ {A = ℕ} 0 1 = cc in absurd (omega arith)
+found_added a s [] = λ h k. absurd cc
 found_added a s (r ∷ rs) = λ h k.
     let p = or_parts (holds a r) (list_any (holds a) rs) h in
     by_cases (is_free r) (λ e. simp (e, same_self a)) (λ e. let q = p.0 in simp (e, q) (found_added a s rs p.1 (simp e at k)))
@@ -60,11 +60,11 @@ single_added a s rs k h b =
 
 -- learning that is refused, moves a known address, or adds a new one
 law_refused : (a : Address) (p : ℕ) (rs : List Entry) (e : FabricFault) → LearnLaw a p rs (Err e) rs
-law_refused a p rs e = record { placed = λ h. let z : ◌≡◌ {A = ℕ} 0 1 = cc in absurd (omega arith); others = λ b h. refl; single = λ h. h; unchanged = λ e h. refl }
+law_refused a p rs e = record { placed = λ h. absurd cc; others = λ b h. refl; single = λ h. h; unchanged = λ e h. refl }
 
 -- a call is not both taken and refused
 never_both : {P : Type 0} (r : Result (Unit {0}) FabricFault) (e : FabricFault) → r ≡ Ok tt → r ≡ Err e → P
-never_both r e g h = let z : ◌≡◌ {A = ℕ} 0 1 = cc in absurd (omega arith)
+never_both r e g h = absurd cc
 
 law_moved : (a : Address) (p : ℕ) (s : Side) (rs : List Entry) → side_number s ≡ p → list_any (holds a) rs ≡ true → LearnLaw a p rs (Ok tt) (put_first (holds a) (known a s) rs)
 law_moved a p s rs n k =
@@ -96,7 +96,7 @@ side_back : (p : ℕ) (s : Side) → side_at p ≡ Some s → side_number s ≡ 
 side_back zero s = λ e. let f : Port0 ≡ s = cc in ap side_number (sym f)
 side_back (suc zero) s = λ e. let f : Port1 ≡ s = cc in ap side_number (sym f)
 side_back (suc (suc zero)) s = λ e. let f : OffRing ≡ s = cc in ap side_number (sym f)
-side_back (suc (suc (suc n))) s = λ e. let z : ◌≡◌ {A = ℕ} 0 1 = cc in absurd (omega arith)
+side_back (suc (suc (suc n))) s = λ e. absurd cc
 
 -- the side that was taken for a number is the one that it names
 pub named : (o : Option Side) (e : FabricFault) (s : Side) → ok_or o e ≡ Ok s → o ≡ Some s

@@ -19,7 +19,7 @@ first_no t rs e = sym (first_some t 0 rs) ∙ ap is_some e
 
 -- writing at the place that was found
 pub first_put : (t : Entry → Bool) (new : Entry) (n i : ℕ) (rs : List Entry) → position_from t n rs ≡ Some i → (n ≤ i) × (set rs (i - n) new ≡ put_first t new rs)
-first_put t new n i [] = λ e. let z : ◌≡◌ {A = ℕ} 0 1 = cc in absurd (omega arith)
+first_put t new n i [] = λ e. absurd cc
 first_put t new n i (r ∷ rs) =
     elim (t r) as (λ v. cond v (Some n) (position_from t (n + 1) rs) ≡ Some i → (n ≤ i) × (set (r ∷ rs) (i - n) new ≡ cond v (new ∷ rs) (r ∷ put_first t new rs))) [
       | true ↦ λ e. let f : n ≡ i = cc in let z : i - n ≡ 0 = omega arith in (omega arith, rw z)
@@ -29,18 +29,9 @@ first_put t new n i (r ∷ rs) =
           (omega (arith, h.0), rw z (ap (λ q. r ∷ q) h.1))
     ]
 
--- where no record passes nothing is written
-pub put_none : (t : Entry → Bool) (new : Entry) (rs : List Entry) → list_any t rs ≡ false → put_first t new rs ≡ rs
-put_none t new [] = λ e. refl
-put_none t new (r ∷ rs) =
-    elim (t r) as (λ v. (v || list_any t rs) ≡ false → cond v (new ∷ rs) (r ∷ put_first t new rs) ≡ r ∷ rs) [
-      | true ↦ λ e. let z : ◌≡◌ {A = ℕ} 0 1 = cc in absurd (omega arith)
-      | false ↦ λ e. ap (λ q. r ∷ q) (put_none t new rs e)
-    ]
-
 -- the record at the place that was found says where the address is
 pub first_found : (a : Address) (d : Entry) (n i : ℕ) (rs : List Entry) → position_from (holds a) n rs ≡ Some i → (n ≤ i) × (side_of (get_or rs (i - n) d) ≡ found_at a rs)
-first_found a d n i [] = λ e. let z : ◌≡◌ {A = ℕ} 0 1 = cc in absurd (omega arith)
+first_found a d n i [] = λ e. absurd cc
 first_found a d n i (r ∷ rs) =
     elim (holds a r) as (λ v. cond v (Some n) (position_from (holds a) (n + 1) rs) ≡ Some i → (n ≤ i) × (side_of (get_or (r ∷ rs) (i - n) d) ≡ cond v (side_of r) (found_at a rs))) [
       | true ↦ λ e. let f : n ≡ i = cc in let z : i - n ≡ 0 = omega arith in (omega arith, rw z)
@@ -54,7 +45,7 @@ pub found_none : (a : Address) (rs : List Entry) → list_any (holds a) rs ≡ f
 found_none a [] = λ e. refl
 found_none a (r ∷ rs) =
     elim (holds a r) as (λ v. (v || list_any (holds a) rs) ≡ false → cond v (side_of r) (found_at a rs) ≡ None) [
-      | true ↦ λ e. let z : ◌≡◌ {A = ℕ} 0 1 = cc in absurd (omega arith)
+      | true ↦ λ e. absurd cc
       | false ↦ found_none a rs
     ]
 

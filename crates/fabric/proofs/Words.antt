@@ -59,11 +59,6 @@ host_with w k true m = by_cases (bit w k) (λ e. rw e) (λ e. rw e (omega arith)
 host_with w k false m =
     by_cases (bit w k) (λ e. rw e (omega (arith, and_le_l w (2 ^ k), mask_set w k e))) (λ e. rw e)
 
-pub host_blocked : (w p : ℕ) (b : Bool) → host_bits (word_with_blocked w p b) ≡ host_bits w
-host_blocked w zero b = rw (host_with w 31 b refl)
-host_blocked w (suc zero) b = rw (host_with w 30 b refl)
-host_blocked w (suc (suc n)) b = refl
-
 marks_29 : (w : ℕ) → word_marks (with_bit w 29 false) ≡ record { blocked = (word_marks w).blocked; taught = record { p0 = false; p1 = bit w 28 } }
 marks_29 w = by_cases (bit w 29) (λ e. rw e (grind (arith, nat_tests))) (λ e. rw e (grind (arith, nat_tests)))
 

@@ -1,7 +1,7 @@
 // A fabric in one word of 32 bits: the four marks in the top bits, the other 28 bits the host's.
 // The host sets the taught bits as it learns; here they are read, and cleared by flush.
 ghost use Rattle.std.specs.Prelude.{◌≡◌, ◌<◌, true, false};
-ghost use Rattle.fabric.specs.Marks.{done_answer, after_block, after_open, after_flush};
+ghost use Rattle.fabric.specs.Marks.{done_answer, after_block, after_open, after_flush, with_blocked};
 ghost use Rattle.fabric.specs.Register.{bit, with_bit, word_marks, host_bits, word_with_blocked, word_after_flush};
 
 use super::fabric::Fabric;
@@ -43,6 +43,8 @@ impl RegisterFabric {
     fn mark_blocked(&mut self, port: u8, on: bool) -> Result<(), FabricFault>
         ensures answer { result ≡ done_answer port }
         ensures exact { self.new.word ≡ word_with_blocked self.old.word port on }
+        ensures after { word_marks self.new.word ≡ with_blocked (word_marks self.old.word) port on }
+        ensures same { host_bits self.new.word ≡ host_bits self.old.word }
     {
         let place = of_port(port, BLOCKED_0, BLOCKED_1)?;
         self.word = with_bit(self.word, place, on);

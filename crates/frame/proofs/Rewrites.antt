@@ -68,7 +68,7 @@ was_read f c m e =
 
 cond_none : (b : Bool) (o : Option ℕ) (k : ℕ) → cond b o (Some k) ≡ None → (b ≡ true) × (o ≡ None)
 cond_none true o k e = (refl, e)
-cond_none false o k e = let z : ◌≡◌ {A = ℕ} 0 1 = cc in absurd (omega arith)
+cond_none false o k e = absurd cc
 
 all_same : (xs : List (ℕ × ℕ × ℕ)) → first_unequal xs ≡ None → (i : ℕ) → (get_or xs i (0, 0, 0)).1 ≡ (get_or xs i (0, 0, 0)).2
 all_same [] e i = refl

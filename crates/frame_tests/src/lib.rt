@@ -35,12 +35,10 @@ mod tests {
         frame
     }
 
-    // The number and the octet of the reader's refusal; zeros where it reads.
-    fn refusal(frame: &[u8]) -> (u8, usize) {
-        match read_frame(frame, CHANNEL) {
-            Ok(_) => (0, 0),
-            Err(fault) => (fault.number(), fault.octet().unwrap_or(0)),
-        }
+    // The number and the octet of the reader's refusal; none where it reads.
+    fn refusal(frame: &[u8]) -> Option<(u8, usize)> {
+        let fault = read_frame(frame, CHANNEL).err()?;
+        Some((fault.number(), fault.octet()?))
     }
 
     #[test]
@@ -69,14 +67,14 @@ mod tests {
 
     #[test]
     fn each_refusal_of_the_reader(rt: HostRuntime) {
-        assert_eq!(rt; refusal(&worked_frame()[0..54]), (1, 54));
-        assert_eq!(rt; refusal(&damaged(13, 0x01)), (2, 13));
-        assert_eq!(rt; refusal(&damaged(15, 0x65)), (2, 15));
-        assert_eq!(rt; refusal(&damaged(19, 0x29)), (3, 19));
-        assert_eq!(rt; refusal(&damaged(21, 31)), (4, 21));
-        assert_eq!(rt; refusal(&damaged(22, 0xC0)), (5, 22));
-        assert_eq!(rt; refusal(&damaged(22, 0xE1)), (5, 22));
-        assert_eq!(rt; refusal(&damaged(21, 33)), (6, 21));
+        assert_eq!(rt; refusal(&worked_frame()[0..54]), Some((1, 54)));
+        assert_eq!(rt; refusal(&damaged(13, 0x01)), Some((2, 13)));
+        assert_eq!(rt; refusal(&damaged(15, 0x65)), Some((2, 15)));
+        assert_eq!(rt; refusal(&damaged(19, 0x29)), Some((3, 19)));
+        assert_eq!(rt; refusal(&damaged(21, 31)), Some((4, 21)));
+        assert_eq!(rt; refusal(&damaged(22, 0xC0)), Some((5, 22)));
+        assert_eq!(rt; refusal(&damaged(22, 0xE1)), Some((5, 22)));
+        assert_eq!(rt; refusal(&damaged(21, 33)), Some((6, 21)));
     }
 
     #[test]

@@ -50,7 +50,7 @@ fn message_name(sent: Option<Request>) -> &'static str {
 }
 
 // The timers that run, with the ticks left.
-#[derive(Clone, Copy)]
+#[derive(Clone, Copy, PartialEq, Eq, Debug)]
 struct Running(Timers);
 
 const NO_TIMER: Timers = Timers {

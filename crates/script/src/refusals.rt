@@ -61,7 +61,7 @@ impl Refusal for FabricFault {
 }
 
 // A place, or `-` where there is none.
-#[derive(Clone, Copy)]
+#[derive(Clone, Copy, PartialEq, Eq, Debug)]
 struct Place<T>(Option<T>);
 
 impl<T: fmt::Display> fmt::Display for Place<T> {
@@ -74,7 +74,7 @@ impl<T: fmt::Display> fmt::Display for Place<T> {
 }
 
 // A refusal as an answer tells it: number, layer, station, port, octet.
-#[derive(Clone, Copy)]
+#[derive(Clone, Copy, PartialEq, Eq, Debug)]
 pub struct Refused<T>(pub T);
 
 impl<T: Refusal> fmt::Display for Refused<T> {
