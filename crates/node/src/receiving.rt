@@ -8,7 +8,7 @@ use crate::ports::{NO_PORT, meet, only, some};
 use crate::rows::{NO_COMMANDS, SILENT};
 use crate::settling::ZERO_PAIR;
 use crate::types::{Delay, Heard, NodeValues, Outcome, Port, Role, Sending, State};
-use frame::{Body, Message, NodeId, Ranked, Request};
+use frame::{Body, Message, NodeId, Request};
 
 impl NodeValues {
     // R-APS(FS) opens failed ports too.
@@ -98,7 +98,7 @@ impl NodeValues {
     fn higher(self, node: NodeId) -> bool
         ensures { result ≡ higher self node }
     {
-        node.outranks(&self.settings.id)
+        self.settings.id < node
     }
 
     // To pending, where the delay begins; guard runs on.
@@ -139,7 +139,7 @@ impl NodeValues {
     fn is_own(self, node: NodeId) -> bool
         ensures { result ≡ is_own self node }
     {
-        u64::from(node) == u64::from(self.settings.id)
+        node == self.settings.id
     }
 
     // An owner that hears NR,RB of another is not alone.
@@ -245,12 +245,11 @@ impl NodeValues {
     }
 }
 
-// Pairs of a Node ID and a BPR compare by the ID's number. (By `==` of the octets was tried: that each is below 256 is not
-// known to a proof where an ID lies inside a pair, so that equal numbers could not be shown to mean equal octets.)
+// Pairs are tuples that a function of their own compares, as a rule of the project has it.
 fn same_pair(a: (NodeId, bool), b: (NodeId, bool)) -> bool
     ensures { result ≡ same_pair a b }
 {
-    u64::from(a.0) == u64::from(b.0) && a.1 == b.1
+    a == b
 }
 
 impl Heard {

@@ -85,7 +85,7 @@ pub struct NodeValues {
     pub sending: Sending,
     pub timers: Timers,
     pub due: Due,
-    // A tuple for each port, as the rules name them.
+    // A tuple for each port, which a function of its own compares, as a rule of the project has it.
     pub pair0: (NodeId, bool),
     pub pair1: (NodeId, bool),
     pub mismatch: bool,
