@@ -10,9 +10,9 @@ use crate::check::settings_ok;
 use crate::drive::drive;
 use crate::faults::NodeFault;
 use crate::node::Node;
-use crate::ports::{NO_PORT, some};
+use crate::ports::some;
 use crate::types::{NodeValues, Outcome, Port, Role, Settings, State, Status};
-use fabric::Fabric;
+use fabric::{Fabric, Ports};
 use frame::{Message, read_frame};
 
 impl NodeValues {
@@ -38,23 +38,19 @@ impl NodeValues {
     fn switched(self, port: Port) -> Result<Outcome, NodeFault>
         ensures { result ≡ (if takes_manual self then Ok (outcome (switched port) self) else Err (NotNow (port_number port))) }
     {
-        if self.takes_manual() {
-            Ok(self.settle(self.manual_row(port)))
-        } else {
-            Err(NodeFault::NotNow {
+        self.takes_manual()
+            .then(|| self.settle(self.manual_row(port)))
+            .ok_or(NodeFault::NotNow {
                 port: u8::from(port),
             })
-        }
     }
 
     fn cleared(self) -> Result<Outcome, NodeFault>
         ensures { result ≡ (if takes_clear self then Ok (outcome cleared self) else Err NothingToClear) }
     {
-        if self.takes_clear() {
-            Ok(self.settle(self.clear_row()))
-        } else {
-            Err(NodeFault::NothingToClear)
-        }
+        self.takes_clear()
+            .then(|| self.settle(self.clear_row()))
+            .ok_or(NodeFault::NothingToClear)
     }
 }
 
@@ -119,7 +115,7 @@ impl Node {
         if !settings_ok(settings) {
             return Err(NodeFault::Settings);
         }
-        let values = settings.started(NO_PORT);
+        let values = settings.started(Ports::NONE);
         drive(fabric, values.blocked, false);
         Ok(Node { values })
     }

@@ -3,10 +3,11 @@ ghost use Rattle.std.specs.Prelude.{◌≡◌, true, false, MatchOption};
 ghost use Rattle.node.specs.Rules.{burst_ok, failed_ok, forced_ok, idle_ok, makes_node, message_ok, sending_ok, settings_ok, timers_ok};
 
 use crate::node::Node;
-use crate::ports::{NO_PORT, at, some, within};
+use crate::ports::{at, some, within};
 use crate::rows::NO_COMMANDS;
 use crate::starts::{BURST_START, GUARD_START, WAIT_START, WTB_START, WTR_START};
 use crate::types::{NodeValues, Role, Settings, State};
+use fabric::Ports;
 use frame::{Request, is_in_range};
 
 // Settings in range: what set-up asks of them.
@@ -24,7 +25,7 @@ impl NodeValues {
         match self.state {
             State::Protection => within(self.failed, self.blocked),
             State::ForcedSwitch => true,
-            _ => self.failed == NO_PORT,
+            _ => self.failed == Ports::NONE,
         }
     }
 
@@ -34,7 +35,7 @@ impl NodeValues {
         let commands = self.commands;
         match self.state {
             State::ManualSwitch => {
-                commands.forced == NO_PORT
+                commands.forced == Ports::NONE
                     && commands.manual.is_none_or(|port| at(self.blocked, port))
             }
             State::ForcedSwitch => {

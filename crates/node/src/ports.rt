@@ -5,15 +5,10 @@ ghost use Rattle.node.specs.Ports.{at, bpr_of, meet, none, only, some, with_mark
 use crate::types::Port;
 use fabric::Ports;
 
-pub(crate) const NO_PORT: Ports = Ports {
-    p0: false,
-    p1: false,
-};
-
 pub(crate) fn only(port: Port) -> Ports
     ensures { result ≡ only port }
 {
-    with_mark(NO_PORT, port, true)
+    with_mark(Ports::NONE, port, true)
 }
 
 pub(crate) fn at(marks: Ports, port: Port) -> bool

@@ -4,10 +4,11 @@ ghost use Rattle.node.specs.Receiving.{after_message, after_signal, flush_logic,
 ghost use Rattle.node.specs.Rows.{heard_fail, heard_forced, heard_manual, heard_no_request, heard_row, heard_rpl_blocked, higher, pend_for, quiet_unless_owner, to_idle};
 
 use crate::claims::Claim;
-use crate::ports::{NO_PORT, meet, only, some};
+use crate::ports::{meet, only, some};
 use crate::rows::{NO_COMMANDS, SILENT};
 use crate::settling::ZERO_PAIR;
 use crate::types::{Delay, Heard, NodeValues, Outcome, Port, Role, Sending, State};
+use fabric::Ports;
 use frame::{Body, Message, NodeId, Request};
 
 impl NodeValues {
@@ -20,7 +21,7 @@ impl NodeValues {
         }
         NodeValues {
             state: State::ForcedSwitch,
-            blocked: NO_PORT,
+            blocked: Ports::NONE,
             commands: NO_COMMANDS,
             sending: SILENT,
             timers: self.timers.stopped(),
@@ -63,7 +64,7 @@ impl NodeValues {
         ensures { result ≡ to_idle self.settings.role self }
     {
         let (blocked, sending) = match self.settings.role {
-            Role::Other => (NO_PORT, SILENT),
+            Role::Other => (Ports::NONE, SILENT),
             Role::Owner => (self.blocked, self.sending),
             Role::Neighbour => (only(self.settings.rpl), SILENT),
         };

@@ -1,16 +1,19 @@
 // Table 10-2 of ITU-T G.8032 on plain values: the action parts, then the rows of local requests. A row is a match on the
 // state and calls the parts that stand in the table, which is a closed list, so it holds no functions.
-ghost use Rattle.std.specs.Prelude.{◌≡◌};
-ghost use Rattle.node.specs.Rows.{clear_fail, clear_row, fail_row, force_more, force_new, force_row, manual_row, newly_failed, pend, present, release, repair_row, repaired, rest, seize_failed, seize_ports, still, stopped, yield_to};
+ghost use Rattle.std.specs.Prelude.{◌≡◌, false};
+ghost use Rattle.node.specs.Names.{guard_start};
+ghost use Rattle.frame.specs.declared.types.Request.TheVariants.{NoRequest};
+ghost use Rattle.node.specs.declared.types.State.TheVariants.{Pending};
+ghost use Rattle.node.specs.Rows.{awaits, clear_fail, clear_row, fail_row, force_more, force_new, force_row, manual_row, moved, newly_failed, no_commands, pend, present, release, repair_row, repaired, rest, seize_failed, seize_ports, send, still, stopped, yield_to};
 
-use crate::ports::{NO_PORT, at, meet, only, some, with_mark, within};
+use crate::ports::{at, meet, only, some, with_mark, within};
 use crate::starts::GUARD_START;
 use crate::types::{Commands, Delay, NodeValues, Outcome, Port, Role, Sending, State, Timers};
 use fabric::Ports;
 use frame::Request;
 
 pub(crate) const NO_COMMANDS: Commands = Commands {
-    forced: NO_PORT,
+    forced: Ports::NONE,
     manual: None,
 };
 
@@ -77,18 +80,25 @@ impl NodeValues {
         self.seize(rpl, Request::RplBlocked, State::Idle, NO_COMMANDS)
     }
 
+    // To pending without commands: NR is sent, guard starts and the delay begins.
+    fn asks_nothing(self, delay: Delay) -> NodeValues
+        ensures { result ≡ moved self Pending self.blocked no_commands (send NoRequest false) (awaits self.settings delay guard_start) }
+    {
+        NodeValues {
+            state: State::Pending,
+            commands: NO_COMMANDS,
+            sending: SENDS_NR,
+            timers: self.settings.awaits(delay, GUARD_START),
+            ..self
+        }
+    }
+
     // Release: commands end; with a port blocked guard starts and NR is sent.
     pub(crate) fn release(self) -> NodeValues
         ensures { result ≡ release self }
     {
         if some(self.blocked) {
-            NodeValues {
-                state: State::Pending,
-                commands: NO_COMMANDS,
-                sending: SENDS_NR,
-                timers: self.settings.awaits(Delay::Wtb, GUARD_START),
-                ..self
-            }
+            self.asks_nothing(Delay::Wtb)
         } else {
             self.pend(self.timers)
         }
@@ -206,7 +216,7 @@ impl NodeValues {
         ensures { result ≡ manual_row self port }
     {
         let commands = Commands {
-            forced: NO_PORT,
+            forced: Ports::NONE,
             manual: Some(port),
         };
         self.seize(
@@ -245,14 +255,7 @@ impl NodeValues {
     fn clear_fail(self) -> Outcome
         ensures { result ≡ clear_fail self }
     {
-        NodeValues {
-            state: State::Pending,
-            commands: NO_COMMANDS,
-            sending: SENDS_NR,
-            timers: self.settings.awaits(Delay::Wtr, GUARD_START),
-            ..self
-        }
-        .still()
+        self.asks_nothing(Delay::Wtr).still()
     }
 
     fn repaired(self) -> Outcome

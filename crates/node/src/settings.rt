@@ -5,7 +5,7 @@ ghost use Rattle.node.specs.Rows.{awaits};
 ghost use Rattle.node.specs.Rules.{idle_ports, rpl_fits};
 ghost use Rattle.node.specs.Settling.{start_port};
 
-use crate::ports::{NO_PORT, only};
+use crate::ports::only;
 use crate::starts::{WTB_START, WTR_START};
 use crate::types::{Delay, Port, Role, Settings, Timers};
 use fabric::Ports;
@@ -51,7 +51,7 @@ impl Settings {
         ensures { result ≡ idle_ports self.role self.rpl }
     {
         match self.role {
-            Role::Other => NO_PORT,
+            Role::Other => Ports::NONE,
             Role::Owner | Role::Neighbour => only(self.rpl),
         }
     }
