@@ -1,4 +1,4 @@
-// The calls of a node, over any fabric.
+// The calls of a node, over any fabric. A port is a number here, since any other number has a refusal of its own.
 ghost use Rattle.std.specs.Prelude.{◌≡◌, ℕ, true, if◌then◌else◌, Some, None, Ok, Err, IfOk, Option};
 ghost use Rattle.node.specs.Calls.{Leaves, SetUp, Stepped, admitted, clear_step, cleared, deliver_step, fail_step, force_step, given_step, in_step, manual_step, message_step, outcome, question, repair_step, restart_step, set_up_marks, status_of, step_at, switched, taken, takes_clear, takes_manual, tick_step};
 ghost use Rattle.node.specs.Faults.{told_at};
@@ -55,7 +55,8 @@ impl NodeValues {
 }
 
 impl Node {
-    // The one place where a node's values change.
+    // The one place where a node's values change. That they make a node is asked of plain values here, in `commit`, `take` and
+    // `take_at`, and carried by no type: a `Node` can only be made where the rules are proved, and that is here.
     #[tactic(auto, using(crate::proofs::Lawful::parts))]
     pub(crate) fn write(&mut self, values: NodeValues)
         requires { makes_node values ≡ true }
@@ -73,8 +74,7 @@ impl Node {
         self.write(o.values);
     }
 
-    // What every call that can be refused owes: a node in step takes what the call gives. That is a value here, since a call
-    // with a rule of its own works it out on values alone: a closure that gives it later would be no plainer.
+    // Commits what a call gave, unless the node is out of step with the fabric or the call was refused by a rule of its own.
     fn take<F: Fabric>(
         &mut self,
         fabric: &mut F,
@@ -89,7 +89,7 @@ impl Node {
         Ok(())
     }
 
-    // The same at a port, of a call that any node in step takes: what the row gives, it does.
+    // Runs the row of a call at a port, and takes what it gives: a call that is refused only at no port or out of step.
     fn take_at<F: Fabric, R: FnOnce(NodeValues, Port) -> Outcome>(
         &mut self,
         fabric: &mut F,
@@ -195,8 +195,7 @@ impl Node {
     {
         Port::try_from(port)?;
         self.values.in_step(fabric)?;
-        let message = read_frame(octets, self.values.settings.channel)?;
-        Ok(message)
+        Ok(read_frame(octets, self.values.settings.channel)?)
     }
 
     // Takes a message that was read.

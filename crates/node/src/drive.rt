@@ -26,7 +26,7 @@ impl NodeValues {
         }
     }
 
-    // 9: the fabric's blocked marks are the node's.
+    // Refusal 9 unless the fabric's blocked marks are the node's.
     pub(crate) fn in_step<F: Fabric>(self, fabric: &F) -> Result<(), NodeFault>
         ensures { result ≡ in_step self.blocked (F.marks fabric.now).blocked }
     {

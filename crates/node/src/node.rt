@@ -5,7 +5,7 @@ ghost use Rattle.node.specs.Rules.{burst_ok, failed_ok, forced_ok, idle_ok, send
 use crate::types::NodeValues;
 
 // Each ghost is one rule of specs/Rules.antt, so no node can be made or left that breaks one.
-#[derive(Clone, Copy)]
+#[derive(Clone, Copy, PartialEq, Eq, Debug)]
 pub struct Node {
     pub values: NodeValues,
     ghost settings: { settings_ok values.settings ≡ true },

@@ -32,26 +32,26 @@ pub(crate) fn with_mark(marks: Ports, port: Port, value: bool) -> Ports
 pub(crate) fn some(marks: Ports) -> bool
     ensures { result ≡ some marks }
 {
-    marks.p0 | marks.p1
+    marks.p0 || marks.p1
 }
 
 pub(crate) fn within(marks: Ports, others: Ports) -> bool
     ensures { result ≡ within marks others }
 {
-    (!marks.p0 | others.p0) & (!marks.p1 | others.p1)
+    (!marks.p0 || others.p0) && (!marks.p1 || others.p1)
 }
 
 pub(crate) fn meet(marks: Ports, others: Ports) -> Ports
     ensures { result ≡ meet marks others }
 {
     Ports {
-        p0: marks.p0 & others.p0,
-        p1: marks.p1 & others.p1,
+        p0: marks.p0 && others.p0,
+        p1: marks.p1 && others.p1,
     }
 }
 
 pub(crate) fn bpr_of(blocked: Ports) -> bool
     ensures { result ≡ bpr_of blocked }
 {
-    blocked.p1 & !blocked.p0
+    blocked.p1 && !blocked.p0
 }

@@ -3,7 +3,7 @@
 ghost use Rattle.std.specs.Prelude.{◌≡◌, false};
 ghost use Rattle.node.specs.Names.{guard_start};
 ghost use Rattle.frame.specs.declared.types.Request.TheVariants.{NoRequest};
-ghost use Rattle.node.specs.declared.types.State.TheVariants.{Pending};
+ghost use Rattle.node.specs.declared.types.State.TheVariants.{ForcedSwitch, Pending};
 ghost use Rattle.node.specs.Rows.{awaits, clear_fail, clear_row, fail_row, force_more, force_new, force_row, manual_row, moved, newly_failed, no_commands, pend, present, release, repair_row, repaired, rest, seize_failed, seize_ports, send, still, stopped, yield_to};
 
 use crate::ports::{at, meet, only, some, with_mark, within};
@@ -181,10 +181,10 @@ impl NodeValues {
 
     // A further FS in forced switch: the other port stays as it is.
     fn force_more(self, port: Port) -> Outcome
+        requires { self.state ≡ ForcedSwitch }
         ensures { result ≡ force_more self port }
     {
         let values = NodeValues {
-            state: State::ForcedSwitch,
             blocked: with_mark(self.blocked, port, true),
             commands: Commands {
                 forced: with_mark(self.commands.forced, port, true),

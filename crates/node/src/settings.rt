@@ -33,8 +33,10 @@ impl Settings {
             wtr: 0,
             wtb: 0,
         };
+        if !self.reverts() {
+            return none;
+        }
         match delay {
-            _ if !self.reverts() => none,
             Delay::Wtr => Timers {
                 wtr: WTR_START,
                 ..none

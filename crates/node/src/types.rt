@@ -98,7 +98,7 @@ pub struct Outcome {
     pub flush: bool,
 }
 
-// A signal that was received.
+// A signal that was received, with its ID: a signal alone, which `Message` cannot say.
 #[derive(Clone, Copy, PartialEq, Eq, Debug)]
 pub struct Heard {
     pub node: NodeId,
