@@ -10,7 +10,7 @@ use Rattle.node.specs.declared.types.State.TheVariants.{ForcedSwitch as Forced}
 use Rattle.node.specs.declared.types.Timers.{Timers}
 use Rattle.node.specs.Names.{by_state, is_owner}
 use Rattle.node.specs.Ports.{with_mark, some, within}
-use Rattle.node.specs.Rows.{seize_failed, force_new, force_more, manual_row, rest, release, pend, present, clear_fail}
+use Rattle.node.specs.Rows.{seize_failed, force_new, force_more, rest, release, pend, present, clear_fail}
 use Rattle.node.specs.Rules.{settings_ok, timers_ok}
 use Rattle.node.proofs.Lawful.{Sound, Runs}
 use Rattle.node.proofs.Timing.{stopped_ok}
@@ -36,9 +36,6 @@ force_more_sound v p s e = record {
   timers = stopped_ok v Forced s.timers;
   idle = grind arith;
 }
-
-pub manual_sound : (v : NodeValues) (p : Port) → settings_ok v.settings ≡ true → Runs v → some v.failed ≡ false → Sound (manual_row v p).values
-manual_sound v p g t f = grind (arith, nat_tests)
 
 pub rest_sound : (v : NodeValues) → settings_ok v.settings ≡ true → Runs v → some v.failed ≡ false → is_owner v.settings.role ≡ true → Sound (rest v).values
 rest_sound v g t f o = grind (arith, nat_tests)

@@ -1,7 +1,7 @@
 -- Bursts, ticks, Start and frames keep the rules. Assumes nothing.
-use Rattle.std.proofs.Common.{◌≡◌, ℕ, ◌≤◌, true, false, ltb, leb, List, ◌++◌, length, drop, Some, None, ◌∙◌, arith}
+use Rattle.std.proofs.Common.{◌≡◌, ℕ, ◌≤◌, true, false, ltb, leb, List, ◌++◌, length, drop, Some, ◌∙◌, arith}
 use Rattle.std.proofs.lemmas.Bool.{and_from, le-ltb, le-leb, cond-true, cond-false}
-use Rattle.frame.specs.Refusals.{Refusal, gave, refused}
+use Rattle.frame.specs.Refusals.{gave}
 use Rattle.frame.specs.Writing.{in_range, writing, written, frame_octets}
 use Rattle.frame.specs.declared.types.Message.{Message}
 use Rattle.std.proofs.lemmas.Bool.Decides.{nat_tests}
@@ -33,9 +33,6 @@ frame_keeps v d s b =
 
 -- ---- the frame request
 
-pub due_none : (v : NodeValues) → None ≡ due_message v → is_due v ≡ false
-due_none v e = grind arith
-
 pub due_some : (v : NodeValues) (m : Message) → Some m ≡ due_message v → (is_due v ≡ true) × (m.node ≡ v.settings.id)
 due_some v m e = grind arith
 
@@ -53,6 +50,3 @@ writes v m b s e l =
     let short : ltb (length b) 55 ≡ false = le-ltb _ _ l in
     let long : leb 55 (length b) ≡ true = le-leb _ _ l in
     (cond-true _ _ _ r ∙ cond-false _ _ _ short, cond-true _ _ _ (and_from _ _ r long))
-
-pub never_refused : {X : Type 0} (r : Refusal) (x : X) → refused r ≡ gave x → ⊥
-never_refused r x e = grind (arith, nat_tests)

@@ -1,7 +1,7 @@
 -- Each row of a received message keeps the rules. Assumes nothing.
 use Rattle.std.proofs.lemmas.Bool.Decides.{nat_tests}
 use Rattle.std.proofs.Common.{◌≡◌, ℕ, suc, ◌≤◌, true, false, not, ◌&&◌, ltb, refl, arith, lit≤}
-use Rattle.std.proofs.lemmas.Bool.{and_parts, not-true}
+use Rattle.std.proofs.lemmas.Bool.{and_parts, not-true, cond_both}
 use Rattle.frame.specs.Highest.{first_highest, highest_rank, option_rank}
 use Rattle.frame.specs.declared.types.Body.{Body}
 use Rattle.frame.specs.declared.types.Body.TheVariants.{Event, Signal}
@@ -30,7 +30,7 @@ use Rattle.node.specs.Settling.{settle}
 use Rattle.node.proofs.Actions.{Free, pend_sound}
 use Rattle.node.proofs.Keeps.{Keeps, none_failed}
 use Rattle.node.proofs.Lawful.{Sound, Speaks, Rests, Bursts, owed, all_rules}
-use Rattle.node.proofs.Split.{in_state, in_cond}
+use Rattle.node.proofs.Split.{in_state}
 use Rattle.node.proofs.Timing.{guard_ok, awaits_ok, pend_ok}
 
 -- ---- what it means to be the highest
@@ -102,11 +102,11 @@ heard_no_request_keeps v i s n =
     let g = guard_ok v s.timers in
     let waits : (d : Delay) → timers_ok v.settings.role v.settings.revertive Pending (awaits v.settings d v.timers.guard) ≡ true = λ d. awaits_ok v.settings d v.timers.guard g in
     in_state Keeps v.state _ _ _ _ _
-    (λ e. in_cond Keeps (is_other v.settings.role && higher v i) _ _ (λ h. yields v Idle s (rw e refl) (and_parts (is_other v.settings.role) _ h).0) (λ _. s))
+    (λ e. cond_both (is_other v.settings.role && higher v i) _ _ Keeps (λ h. yields v Idle s (rw e refl) (and_parts (is_other v.settings.role) _ h).0) (λ _. s))
     (λ e. pends v (awaits v.settings Wtr v.timers.guard) s n (rw e refl) (waits Wtr))
     (λ e. pends v (awaits v.settings Wtb v.timers.guard) s n (rw e refl) (waits Wtb))
     (λ e. pends_forced v (awaits v.settings Wtb v.timers.guard) s n e (waits Wtb))
-    (λ e. in_cond Keeps (higher v i) _ _ (λ _. yields v Pending s (rw e refl) refl) (λ _. s))
+    (λ e. cond_both (higher v i) _ _ Keeps (λ _. yields v Pending s (rw e refl) refl) (λ _. s))
 
 heard_keeps : (r : Request) (v : NodeValues) (i : NodeId) → Sound v → (claim_rank (claim_of r) ≤ 2 → Free v) → (r ≡ RplBlocked → Marked v) → Sound (heard_row r v i).values
 heard_keeps ForcedSwitch v i s n m = heard_forced_keeps v s
@@ -139,7 +139,7 @@ noted_marks v q n e = grind arith
 
 row_keeps : (v : NodeValues) (q : Heard) → Sound v → Sound (row_of v q).values
 row_keeps v q s =
-    in_cond Keeps (reaches_row v q) _ _
+    cond_both (reaches_row v q) _ _ Keeps
     (λ e. let p = and_parts (not (is_own v q.node)) (reaches v (claim_of q.request)) e in
     heard_keeps q.request (noted v q) q.node (noted_sound v q s)
     (λ l. let n = free_of v (claim_of q.request) l p.1 in record { forced = n.forced; failed = n.failed; manual = n.manual })
@@ -154,7 +154,7 @@ body_keeps : (v : NodeValues) (p : Port) (i : NodeId) (b : Body) → Sound v →
 body_keeps v p i Event s u = all_rules v s u
 body_keeps v p i (Signal r d b) s u =
     let q : Heard = record { node = i; request = r; dnf = d; bpr = b } in
-    in_cond (λ (o : Outcome). makes_node o.values ≡ true) (ltb 0 v.timers.guard) _ _
+    cond_both (ltb 0 v.timers.guard) _ _ (λ (o : Outcome). makes_node o.values ≡ true)
     (λ _. all_rules v s u)
     (λ _. logic_keeps (settle v (row_of v q)) p q (owed v (row_of v q).values u (row_keeps v q s)))
 

@@ -1,5 +1,6 @@
 -- Each row keeps the rules. Assumes nothing.
 use Rattle.std.proofs.Common.{◌≡◌, true, false, refl, arith}
+use Rattle.std.proofs.lemmas.Bool.{cond_both}
 use Rattle.std.proofs.lemmas.Bool.Decides.{nat_tests}
 use Rattle.fabric.specs.declared.types.Ports.{Ports}
 use Rattle.node.specs.declared.types.Delay.TheVariants.{Wtb}
@@ -16,7 +17,7 @@ use Rattle.node.specs.Rules.{settings_ok}
 use Rattle.node.specs.Settling.{lowered, tick_row, expires}
 use Rattle.node.proofs.Actions.{force_new_sound, force_more_sound, rest_sound, release_sound, seize_failed_sound, clear_fail_sound, present_sound, some_marked}
 use Rattle.node.proofs.Lawful.{Sound, Failed, Forcing, Runs}
-use Rattle.node.proofs.Split.{in_state, in_cond}
+use Rattle.node.proofs.Split.{in_state}
 use Rattle.node.proofs.Timing.{awaits_ok, pend_ok}
 
 abbrev pub Keeps : Outcome → Type 0
@@ -44,7 +45,7 @@ newly_keeps v g t f s = grind (arith, nat_tests)
 pub fail_keeps : (v : NodeValues) (p : Port) → Sound v → Sound (fail_row v p).values
 fail_keeps v p s =
     let f = with_mark v.failed p true in
-    in_cond Keeps (at v.failed p) _ _ (λ _. s)
+    cond_both (at v.failed p) _ _ Keeps (λ _. s)
     (λ _. newly_keeps (with_failed v f) s.settings s.timers (some_marked v.failed p) (λ e. marked v f e s))
 
 -- a failed port outside forced switch means that a port is blocked
@@ -58,10 +59,10 @@ not_there v p f a e = grind arith
 pub repair_keeps : (v : NodeValues) (p : Port) → Sound v → Sound (repair_row v p).values
 repair_keeps v p s =
     let w = with_failed v (with_mark v.failed p false) in
-    in_cond Keeps (at v.failed p) _ _
+    cond_both (at v.failed p) _ _ Keeps
     (λ a. in_state Keeps v.state _ _ _ _ _
     (λ e. absurd (not_there v p s.failed a (grind arith)))
-    (λ e. in_cond Keeps (some w.failed) _ _ (λ f. seize_failed_sound w s.settings s.timers f)
+    (λ e. cond_both (some w.failed) _ _ Keeps (λ f. seize_failed_sound w s.settings s.timers f)
     (λ f. clear_fail_sound w s.settings (failed_blocks v p s.failed e a) f))
     (λ e. absurd (not_there v p s.failed a (grind arith)))
     (λ e. marked v (with_mark v.failed p false) e s)
@@ -76,7 +77,7 @@ forced_blocks : (v : NodeValues) → v.state ≡ Forced → takes_clear v ≡ tr
 forced_blocks v e m c = grind arith
 
 release_runs : (v : NodeValues) → Runs v → Runs (release v)
-release_runs v t = in_cond Runs (some v.blocked) _ _ (λ _. awaits_ok v.settings Wtb 50 refl) (λ _. pend_ok v t)
+release_runs v t = cond_both (some v.blocked) _ _ Runs (λ _. awaits_ok v.settings Wtb 50 refl) (λ _. pend_ok v t)
 
 release_settings : (v : NodeValues) → settings_ok v.settings ≡ true → settings_ok (release v).settings ≡ true
 release_settings v g = grind (arith, nat_tests)
@@ -90,7 +91,7 @@ clear_keeps v m s =
     (λ e. release_sound v s.settings (manual_blocks v e m s.forced) (none_failed v s.failed (grind arith)))
     (λ e. present_sound (release v) (release_settings v s.settings) (release_runs v s.timers)
     (λ f. release_sound v s.settings (forced_blocks v e m s.forced) (release_failed v f)))
-    (λ e. in_cond Keeps (is_owner v.settings.role) _ _ (λ o. rest_sound v s.settings s.timers (none_failed v s.failed (grind arith)) o) (λ _. s))
+    (λ e. cond_both (is_owner v.settings.role) _ _ Keeps (λ o. rest_sound v s.settings s.timers (none_failed v s.failed (grind arith)) o) (λ _. s))
 
 -- where a delay timer runs, the node is a revertive owner in pending
 pub waits : (v : NodeValues) → Runs v → expires v.timers ≡ true → (is_owner v.settings.role ≡ true) × (v.state ≡ Pending)
@@ -102,6 +103,6 @@ lowered_sound v s = grind (arith, nat_tests)
 pub tick_keeps : (v : NodeValues) → Sound v → Sound (tick_row v).values
 tick_keeps v s =
     let low = lowered_sound v s in
-    in_cond Keeps (expires v.timers) _ _
+    cond_both (expires v.timers) _ _ Keeps
     (λ e. let w = waits v s.timers e in rest_sound (lowered v) s.settings low.timers (none_failed v s.failed (rw w.1 refl)) w.0)
     (λ _. low)

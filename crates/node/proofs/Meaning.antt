@@ -1,7 +1,7 @@
 -- The laws of the calls. Assumes nothing.
 use Rattle.std.proofs.Common.{◌≡◌, suc, ◌≤◌, Bool, true, false, not, ◌||◌, refl, arith, lit≤}
 use Rattle.std.proofs.lemmas.Bool.Decides.{nat_tests}
-use Rattle.std.proofs.lemmas.Bool.{and_parts}
+use Rattle.std.proofs.lemmas.Bool.{and_parts, cond_both}
 use Rattle.frame.specs.Highest.{first_highest}
 use Rattle.frame.specs.declared.types.Body.{Body}
 use Rattle.frame.specs.declared.types.Body.TheVariants.{Event, Signal}
@@ -32,7 +32,7 @@ use Rattle.node.proofs.Frames.{lowered_burst, started_keeps, restart_keeps, fram
 use Rattle.node.proofs.Hearing.{message_keeps, free_of, standing_rank}
 use Rattle.node.proofs.Keeps.{force_keeps, manual_keeps, fail_keeps, repair_keeps, clear_keeps, tick_keeps}
 use Rattle.node.proofs.Lawful.{Failed, Forcing, Speaks, Runs, Rests, parts, of_node, all_rules, owed}
-use Rattle.node.proofs.Split.{in_state, in_cond}
+use Rattle.node.proofs.Split.{in_state}
 
 -- ---- every call keeps the rules
 
@@ -151,7 +151,7 @@ heard_forces NoRequest v i c n =
 
 row_forces : (v : NodeValues) (q : Heard) → Forcing v → (row_of v q).values.commands.forced ≡ v.commands.forced
 row_forces v q c =
-    in_cond (λ (o : Outcome). o.values.commands.forced ≡ v.commands.forced) (reaches_row v q) _ _
+    cond_both (reaches_row v q) _ _ (λ (o : Outcome). o.values.commands.forced ≡ v.commands.forced)
     (λ e. heard_forces q.request (noted v q) q.node c
     (λ l. (free_of v (claim_of q.request) l (and_parts (not (is_own v q.node)) _ e).1).forced))
     (λ _. refl)

@@ -1,7 +1,6 @@
--- To show a property of a choice, show it of what each way gives. Assumes nothing.
-use Rattle.std.proofs.Common.{arith}
+-- To show a property of what each state gives, show it in each. Assumes nothing.
+use Rattle.std.proofs.Common.{◌≡◌, arith}
 use Rattle.std.proofs.lemmas.Bool.Decides.{nat_tests}
-use Rattle.std.proofs.Common.{◌≡◌, Bool, true, false, cond}
 use Rattle.node.specs.declared.types.State.{State}
 use Rattle.node.specs.declared.types.State.TheVariants.{Idle, Protection, Pending}
 use Rattle.node.specs.declared.types.State.TheVariants.{ManualSwitch as Manual, ForcedSwitch as Forced}
@@ -9,6 +8,3 @@ use Rattle.node.specs.Names.{by_state}
 
 pub in_state : {X : Type 0} (P : X → Type 0) (s : State) (a b c d e : X) → (s ≡ Idle → P a) → (s ≡ Protection → P b) → (s ≡ Manual → P c) → (s ≡ Forced → P d) → (s ≡ Pending → P e) → P (by_state s a b c d e)
 in_state P s a b c d e f g h i j = grind (arith, nat_tests)
-
-pub in_cond : {X : Type 0} (P : X → Type 0) (t : Bool) (a b : X) → (t ≡ true → P a) → (t ≡ false → P b) → P (cond t a b)
-in_cond P t a b f g = grind (arith, nat_tests)

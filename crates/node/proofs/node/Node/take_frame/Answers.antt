@@ -1,7 +1,7 @@
 use Rattle.std.proofs.Common.{◌≡◌, false, ltb, length, sym, ap, ◌∙◌}
 use Rattle.std.proofs.lemmas.Bool.{le-ltb, cond-false}
 use Rattle.frame.specs.Faults.{told}
-use Rattle.node.proofs.Frames.{due_some, writes, never_refused, frame_keeps}
+use Rattle.node.proofs.Frames.{due_some, writes, frame_keeps}
 use Rattle.node.proofs.Lawful.{of_node}
 use Rattle.node.specs.Calls.{octets_of}
 use Rattle.node.proofs.node.Node.take_frame.Goals as goal
@@ -11,7 +11,7 @@ returns-in_err-write_frame c =
     let v = c.args.self.now.values in
     let d = due_some v c.in-Some.message c.in-Some.ensures in
     let w = writes v c.in-Some.message c.args.buffer.now c.args.self.now.settings d.1 c.if-buffer-lt-FRAME_LENGTH.false in
-    absurd (never_refused _ _ (sym (ap told c.in_err-write_frame.was) ∙ c.write_frame.ensures.answer ∙ w.0))
+    let e = sym (ap told c.in_err-write_frame.was) ∙ c.write_frame.ensures.answer ∙ w.0 in absurd cc
 
 pub write-requires : goal.write-requires
 write-requires c =
