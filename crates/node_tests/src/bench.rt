@@ -221,6 +221,7 @@ impl Station {
         Ok(())
     }
 
+    // A match on the call, and no closure: the examples are constant data.
     fn make(&mut self, call: Call) -> Result<(), NodeFault> {
         match call {
             Call::Clear => self.node.clear(&mut self.fabric),
@@ -252,7 +253,7 @@ impl Station {
 
     // Makes the call with addresses learned at both ports. A refusal is told by its number.
     pub(crate) fn call(&mut self, call: Call) -> Result<(), u8> {
-        self.fabric.word = self.fabric.word | 0x3000_0000;
+        self.fabric.word |= 0x3000_0000;
         self.make(call).map_err(|fault| fault.number())
     }
 
@@ -321,7 +322,7 @@ pub(crate) fn run(rt: &impl Abort, examples: &[Example]) -> Result<(), Fail> {
 pub(crate) fn run_refused(rt: &impl Abort, refusals: &[Refusal]) -> Result<(), Fail> {
     for (number, refusal) in (1..).zip(refusals) {
         let mut station = Station::brought(refusal.at, refusal.path)?;
-        station.fabric.word = station.fabric.word | 0x3000_0000;
+        station.fabric.word |= 0x3000_0000;
         let before = station;
         assert_eq!(rt;
             station.call(refusal.call),

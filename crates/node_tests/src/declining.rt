@@ -157,7 +157,7 @@ fn ports(rt: HostRuntime) -> Result<(), Fail> {
     run_refused(&rt, &PORTS)
 }
 
-// Number, port and octet of a refusal, given the port that the call named; zeros where it is taken.
+// Number, port and octet of a refusal at the port called; number 0 where it is taken, as the expected values have it.
 fn told(answer: Result<(), NodeFault>, called: Option<u8>) -> (u8, Option<u8>, Option<usize>) {
     match answer {
         Ok(()) => (0, None, None),
@@ -168,7 +168,7 @@ fn told(answer: Result<(), NodeFault>, called: Option<u8>) -> (u8, Option<u8>, O
 // An idle owner blocks port 0 only; here the fabric's blocked marks are changed behind its back.
 fn out_of_step(bits: u32) -> Result<Station, u8> {
     let mut station = Station::brought(OWNER, &[Call::Clear])?;
-    station.fabric.word = station.fabric.word ^ bits;
+    station.fabric.word ^= bits;
     Ok(station)
 }
 
@@ -203,10 +203,10 @@ fn fabric_out_of_step(rt: HostRuntime) -> Result<(), Fail> {
 #[test]
 fn out_of_step_comes_first(rt: HostRuntime) -> Result<(), Fail> {
     let mut other = Station::new(OTHER)?;
-    other.fabric.word = other.fabric.word ^ 0x4000_0000;
+    other.fabric.word ^= 0x4000_0000;
     assert_eq!(rt; other.call(Call::Clear), Err(9));
     let mut forced = Station::brought(OTHER, &[Call::Force(0)])?;
-    forced.fabric.word = forced.fabric.word ^ 0x8000_0000;
+    forced.fabric.word ^= 0x8000_0000;
     assert_eq!(rt; forced.call(Call::Switch(0)), Err(9));
     Ok(())
 }
@@ -267,8 +267,8 @@ fn places(rt: HostRuntime) -> Result<(), Fail> {
 // The frame of SF, BPR 1, from the station whose ID ends 01, with one octet changed.
 fn damaged(offset: usize, octet: u8) -> [u8; FRAME_LENGTH] {
     let mut frame = worked_frame();
-    if offset < FRAME_LENGTH {
-        frame[offset] = octet;
+    if let Some(place) = frame.get_mut(offset) {
+        *place = octet;
     }
     frame
 }

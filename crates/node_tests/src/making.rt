@@ -166,7 +166,7 @@ fn made_node_serves(rt: HostRuntime) -> Result<(), Fail> {
         return Err(Fail::new("no node"));
     };
     station.node = node;
-    station.fabric.word = station.fabric.word | 0x8000_0000;
+    station.fabric.word |= 0x8000_0000;
     station.call(Call::Hear(0, 3, NR))?;
     assert_eq!(rt;
         station.seen(),

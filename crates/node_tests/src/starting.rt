@@ -145,7 +145,7 @@ fn named(octets: [u8; 6]) -> Settings {
     }
 }
 
-// The number of the refusal, 0 where set-up is taken. A refused one leaves the fabric.
+// The number of the refusal, 0 where set-up is taken, as the expected values have it. A refused one leaves the fabric.
 fn refused(rt: &impl Abort, settings: Settings) -> Result<u8, Fail> {
     let mut fabric = RegisterFabric { word: 0x7234_5678 };
     match Node::set_up(settings, &mut fabric) {
