@@ -1,6 +1,6 @@
 // Marks for two ports: functions, since `Ports` is the fabric library's.
 ghost use Rattle.std.specs.Prelude.{◌≡◌};
-ghost use Rattle.node.specs.Ports.{at, bpr_of, meet, none, only, some, with_mark, within};
+ghost use Rattle.node.specs.Ports.{at, bpr_of, meet, only, some, with_mark, within};
 
 use crate::types::Port;
 use fabric::Ports;
