@@ -27,9 +27,7 @@ frame_burst v d b = grind (arith, nat_tests)
 
 pub frame_keeps : (v : NodeValues) → is_due v ≡ true → Sound v → Bursts v → makes_node (frame_taken v) ≡ true
 frame_keeps v d s b =
-    all_rules (frame_taken v)
-    (record { settings = s.settings; failed = s.failed; forced = s.forced; sending = s.sending; timers = s.timers; idle = s.idle })
-    (frame_burst v d b)
+    all_rules (frame_taken v) (grind (arith, nat_tests)) (frame_burst v d b)
 
 -- ---- the frame request
 

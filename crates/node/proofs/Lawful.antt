@@ -93,14 +93,7 @@ settled_burst v w c =
     (due_go (same_sent v w) (is_sending v.sending.request) (is_sending w.sending.request) v.due.burst v.due.wait (alike_sending v w) c)
 
 settled_sound : (v w : NodeValues) → Sound w → Sound (settled v w)
-settled_sound v w s = record {
-  settings = s.settings;
-  failed = s.failed;
-  forced = s.forced;
-  sending = s.sending;
-  timers = s.timers;
-  idle = s.idle;
-}
+settled_sound v w s = grind (arith, nat_tests)
 
 -- what a row gives, once settled, makes a node
 pub owed : (v w : NodeValues) → Bursts v → Sound w → makes_node (settled v w) ≡ true
