@@ -75,6 +75,7 @@ impl Node {
     }
 
     // Commits what a call gave, unless the node is out of step with the fabric or the call was refused by a rule of its own.
+    // What was given is a value and no closure, since a call with a rule of its own works it out on values alone.
     fn take<F: Fabric>(
         &mut self,
         fabric: &mut F,
