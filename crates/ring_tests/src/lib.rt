@@ -4,7 +4,7 @@
 #[cfg(test)]
 mod tests {
     use fabric::RegisterFabric;
-    use frame::{Body, Channel, Message, NodeId, Request, write_frame};
+    use frame::{Body, Channel, FRAME_LENGTH, Message, NodeId, Request, write_frame};
     use node::{Node, Port, Role, Settings, State};
     use ring::{RingRefusal, Station, clear, deliver, fail, set_up, status, survivor, tick, ticks};
     use std::test::Fail;
@@ -35,13 +35,13 @@ mod tests {
 
     fn station(last: u8, role: Role) -> Result<Station<RegisterFabric>, Fail> {
         let mut fabric = RegisterFabric { word: 0 };
-        match Node::set_up(settings(last, role), &mut fabric) {
-            Ok(node) => Ok(Station {
-                values: node.values,
-                fabric,
-            }),
-            Err(_) => Err(Fail::new("settings")),
-        }
+        let node = Node::set_up(settings(last, role), &mut fabric).map_err(|_| Fail::new(
+            "settings",
+        ))?;
+        Ok(Station {
+            values: node.values,
+            fabric,
+        })
     }
 
     // An owner and two others, IDs 1, 5 and 9.
@@ -53,7 +53,7 @@ mod tests {
         ])
     }
 
-    fn frame(last: u8, request: Request) -> Result<[u8; 55], Fail> {
+    fn frame(last: u8, request: Request) -> Result<[u8; FRAME_LENGTH], Fail> {
         let message = Message {
             node: id(last),
             body: Body::Signal {
@@ -62,30 +62,25 @@ mod tests {
                 bpr: false,
             },
         };
-        let mut octets = [0; 55];
-        match write_frame(message, CHANNEL, 7, &mut octets) {
-            Ok(()) => Ok(octets),
-            Err(_) => Err(Fail::new("frame")),
-        }
+        let mut octets = [0; FRAME_LENGTH];
+        write_frame(message, CHANNEL, 7, &mut octets).map_err(|_| Fail::new("frame"))?;
+        Ok(octets)
     }
 
-    // The number of a refusal and its places; 0 where the call was taken.
-    fn number(answer: Result<(), RingRefusal>) -> (u8, Option<usize>, Option<u8>) {
-        match answer {
-            Ok(()) => (0, None, None),
-            Err(refusal) => (refusal.cause.number(), refusal.station, refusal.port),
-        }
+    // The number of a refusal and its places; none where the call was taken.
+    fn refusal(answer: Result<(), RingRefusal>) -> Option<(u8, Option<usize>, Option<u8>)> {
+        answer.err().map(|refusal| (refusal.cause.number(), refusal.station, refusal.port))
     }
 
     #[test]
     fn rows_and_stations(rt: HostRuntime) -> Result<(), Fail> {
         let mut alone = [station(1, Role::Owner)?];
-        assert_eq!(rt; number(tick(&mut alone, 0)), (14, None, None));
+        assert_eq!(rt; refusal(tick(&mut alone, 0)), Some((14, None, None)));
         let mut row = new_row()?;
-        assert_eq!(rt; number(tick(&mut row, 3)), (16, None, None));
-        assert_eq!(rt; number(fail(&mut row, 1, 2)), (8, Some(1), Some(2)));
-        assert_eq!(rt; number(clear(&mut row, 2)), (10, Some(2), None));
-        assert_eq!(rt; number(fail(&mut row, 2, 1)), (0, None, None));
+        assert_eq!(rt; refusal(tick(&mut row, 3)), Some((16, None, None)));
+        assert_eq!(rt; refusal(fail(&mut row, 1, 2)), Some((8, Some(1), Some(2))));
+        assert_eq!(rt; refusal(clear(&mut row, 2)), Some((10, Some(2), None)));
+        assert_eq!(rt; refusal(fail(&mut row, 2, 1)), None);
         Ok(())
     }
 
@@ -96,9 +91,9 @@ mod tests {
             station(5, Role::Other)?,
             station(5, Role::Other)?,
         ];
-        assert_eq!(rt; number(tick(&mut row, 0)), (15, None, None));
+        assert_eq!(rt; refusal(tick(&mut row, 0)), Some((15, None, None)));
         let mut owners = [station(1, Role::Owner)?, station(5, Role::Owner)?];
-        assert_eq!(rt; number(tick(&mut owners, 0)), (15, None, None));
+        assert_eq!(rt; refusal(tick(&mut owners, 0)), Some((15, None, None)));
         Ok(())
     }
 
@@ -107,18 +102,18 @@ mod tests {
         let mut row = new_row()?;
         let nobody = frame(7, Request::SignalFail)?;
         assert_eq!(rt;
-            number(deliver(&mut row, 1, 0, &nobody)),
-            (17, Some(1), Some(0))
+            refusal(deliver(&mut row, 1, 0, &nobody)),
+            Some((17, Some(1), Some(0)))
         );
         let usurper = frame(9, Request::RplBlocked)?;
         assert_eq!(rt;
-            number(deliver(&mut row, 1, 1, &usurper)),
-            (18, Some(1), Some(1))
+            refusal(deliver(&mut row, 1, 1, &usurper)),
+            Some((18, Some(1), Some(1)))
         );
         let short = frame(9, Request::NoRequest)?;
         assert_eq!(rt;
-            number(deliver(&mut row, 1, 1, &short[0..54])),
-            (1, Some(1), Some(1))
+            refusal(deliver(&mut row, 1, 1, &short[0..FRAME_LENGTH - 1])),
+            Some((1, Some(1), Some(1)))
         );
         Ok(())
     }
@@ -128,25 +123,19 @@ mod tests {
     fn one_station_moves(rt: HostRuntime) -> Result<(), Fail> {
         let mut row = new_row()?;
         let octets = frame(9, Request::NoRequest)?;
-        assert_eq!(rt; number(deliver(&mut row, 1, 0, &octets)), (0, None, None));
+        assert_eq!(rt; refusal(deliver(&mut row, 1, 0, &octets)), None);
         assert_eq!(rt; row[0].fabric.word, 0x8000_0000);
         assert_eq!(rt; row[1].fabric.word, 0);
         assert_eq!(rt; row[2].fabric.word, 0x8000_0000);
-        match status(&row, 1) {
-            Ok(held) => {
-                assert!(rt; matches!(held.state, State::Pending) && held.sent.is_none());
-                Ok(())
-            },
-            Err(_) => Err(Fail::new("status")),
-        }
+        let held = status(&row, 1).map_err(|_| Fail::new("status"))?;
+        assert_eq!(rt; held.state, State::Pending);
+        assert_eq!(rt; held.sent, None);
+        Ok(())
     }
 
     // The station of the answer, or the number of the refusal.
     fn who(answer: Result<Option<usize>, RingRefusal>) -> Result<Option<usize>, u8> {
-        match answer {
-            Ok(station) => Ok(station),
-            Err(refusal) => Err(refusal.cause.number()),
-        }
+        answer.map_err(|refusal| refusal.cause.number())
     }
 
     // 14, 13 and 15 leave the row; then each station has its own settings, the owner blocks its RPL port 1, all others port 0.
@@ -157,17 +146,23 @@ mod tests {
         owner.rpl = Port::One;
         let good = [settings(2, Role::Other), owner, settings(6, Role::Other)];
         let two_owners = [good[0], settings(0x0A, Role::Owner), good[1]];
-        assert_eq!(rt; number(set_up(&mut row, &good[0..2])), (14, None, None));
+        assert_eq!(rt;
+            refusal(set_up(&mut row, &good[0..2])),
+            Some((14, None, None))
+        );
         let mut out_of_range = good;
         out_of_range[1].mel = 8;
         assert_eq!(rt;
-            number(set_up(&mut row, &out_of_range)),
-            (13, Some(1), None)
+            refusal(set_up(&mut row, &out_of_range)),
+            Some((13, Some(1), None))
         );
-        assert_eq!(rt; number(set_up(&mut row, &two_owners)), (15, None, None));
+        assert_eq!(rt;
+            refusal(set_up(&mut row, &two_owners)),
+            Some((15, None, None))
+        );
         assert_eq!(rt; row[0].values.settings.id.octets[5], 1);
         assert_eq!(rt; row[1].fabric.word, 0x8000_0000);
-        assert_eq!(rt; number(set_up(&mut row, &good)), (0, None, None));
+        assert_eq!(rt; refusal(set_up(&mut row, &good)), None);
         assert_eq!(rt; row[0].values.settings.id.octets[5], 2);
         assert_eq!(rt; row[1].values.settings.id.octets[5], 8);
         assert_eq!(rt; row[2].values.settings.id.octets[5], 6);
@@ -182,10 +177,10 @@ mod tests {
     fn the_highest_survives(rt: HostRuntime) -> Result<(), Fail> {
         let mut row = new_row()?;
         assert_eq!(rt; who(survivor(&row)), Ok(Some(2)));
-        assert_eq!(rt; number(fail(&mut row, 2, 1)), (0, None, None));
+        assert_eq!(rt; refusal(fail(&mut row, 2, 1)), None);
         assert_eq!(rt; who(survivor(&row)), Ok(Some(1)));
-        assert_eq!(rt; number(fail(&mut row, 1, 1)), (0, None, None));
-        assert_eq!(rt; number(fail(&mut row, 0, 1)), (0, None, None));
+        assert_eq!(rt; refusal(fail(&mut row, 1, 1)), None);
+        assert_eq!(rt; refusal(fail(&mut row, 0, 1)), None);
         assert_eq!(rt; who(survivor(&row)), Ok(None));
         let alone = [station(1, Role::Owner)?];
         assert_eq!(rt; who(survivor(&alone)), Err(14));
@@ -196,14 +191,14 @@ mod tests {
     #[test]
     fn many_ticks(rt: HostRuntime) -> Result<(), Fail> {
         let mut row = new_row()?;
-        assert_eq!(rt; number(ticks(&mut row, 0, 0)), (0, None, None));
+        assert_eq!(rt; refusal(ticks(&mut row, 0, 0)), None);
         assert_eq!(rt; row[0].values.timers.wtr, 30_000);
-        assert_eq!(rt; number(ticks(&mut row, 0, 29_999)), (0, None, None));
+        assert_eq!(rt; refusal(ticks(&mut row, 0, 29_999)), None);
         assert_eq!(rt; row[0].values.timers.wtr, 1);
-        assert!(rt; matches!(row[0].values.state, State::Pending));
-        assert_eq!(rt; number(ticks(&mut row, 0, 1)), (0, None, None));
-        assert!(rt; matches!(row[0].values.state, State::Idle));
-        assert_eq!(rt; number(ticks(&mut row, 3, 2)), (16, None, None));
+        assert_eq!(rt; row[0].values.state, State::Pending);
+        assert_eq!(rt; refusal(ticks(&mut row, 0, 1)), None);
+        assert_eq!(rt; row[0].values.state, State::Idle);
+        assert_eq!(rt; refusal(ticks(&mut row, 3, 2)), Some((16, None, None)));
         Ok(())
     }
 }
