@@ -1,5 +1,5 @@
 -- Tests at every number below one. Assumes nothing.
-use Rattle.std.proofs.Common.{◌≡◌, ℕ, zero, suc, ◌+◌, ◌<◌, Bool, true, false, cond, List, [], ◌∷◌, map, length, get_or, sym, refl, ap, ◌∙◌, subst, ⊎_elim, add-one, arith}
+use Rattle.std.proofs.Common.{◌≡◌, ℕ, zero, suc, ◌+◌, ◌<◌, Bool, true, false, cond, ◌&&◌, List, [], ◌∷◌, map, length, get_or, sym, refl, ap, ◌∙◌, subst, ⊎_elim, add-one, arith}
 use Rattle.std.specs.List.{list_all, count_by, AllPass}
 use Rattle.std.proofs.lemmas.Bool.Decides.{same_from_decides}
 use Rattle.std.proofs.lemmas.List.Elements.{All-from_get_or}
@@ -21,6 +21,10 @@ below_at f zero h k l = absurd (omega arith)
 below_at f (suc n) h k l =
     ⊎_elim (λ (q : k ≡ n). subst (λ m. f m ≡ true) (sym q) (and_parts (f n) (all_below f n) h).0)
     (λ (q : k ≡ n → ⊥). below_at f n (and_parts (f n) (all_below f n) h).1 k (omega arith)) (cases_eq k n)
+
+pub below_same : (f g : ℕ → Bool) (n : ℕ) → ((k : ℕ) → k < n → f k ≡ g k) → all_below f n ≡ all_below g n
+below_same f g zero h = refl
+below_same f g (suc n) h = ap (λ b. b && all_below f n) (h n (omega arith)) ∙ ap (λ b. g n && b) (below_same f g n (λ k l. h k (omega arith)))
 
 pub below_from : (f : ℕ → Bool) (n : ℕ) → ((k : ℕ) → k < n → f k ≡ true) → all_below f n ≡ true
 below_from f zero h = refl

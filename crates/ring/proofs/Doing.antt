@@ -1,6 +1,6 @@
 -- From what a node's call does to what the ring's call does. Assumes nothing.
 use Rattle.std.proofs.Common.{◌≡◌, ℕ, zero, suc, ◌<◌, Bool, true, false, cond, ltb, List, [], ◌∷◌, length, get_or, set, is_ok, Some, None, Ok, Err, Option, Result, sym, refl, ap, ◌∙◌, subst, arith, get_or-set_other}
-use Rattle.std.proofs.lemmas.Bool.{true≢false}
+use Rattle.std.proofs.lemmas.Bool.{cond_both, true≢false}
 use Rattle.std.proofs.lemmas.List.{get_or-map, set-get_or}
 use Rattle.fabric.specs.Marks.{Marks}
 use Rattle.frame.specs.Refusals.{Refusal, Answer, gave, refused}
@@ -31,9 +31,6 @@ Same v m s = (s.values ≡ v) × (s.marks ≡ m)
 abbrev Quiet : NodeValues → Marks → Step → Type 0
 Quiet v m s = is_gave s.answer ≡ false → Same v m s
 
-never : {Q : Type 0} → true ≡ false → Q
-never e = absurd (true≢false e)
-
 at_port : (v : NodeValues) (m : Marks) (p : ℕ) (r : Result Port NodeFault) (next : Port → Step) → ((q : Port) → Quiet v m (next q)) → Quiet v m (node.step_at v m p r next)
 at_port v m p (Ok q) next h = h q
 at_port v m p (Err e) next h = λ _. (refl, refl)
@@ -42,17 +39,14 @@ in_step : (v : NodeValues) (m : Marks) (r : Result (Unit {0}) NodeFault) (next :
 in_step v m (Ok u) next h = h
 in_step v m (Err e) next h = λ _. (refl, refl)
 
-if_then : (v : NodeValues) (m : Marks) (b : Bool) (x y : Step) → Quiet v m x → Quiet v m y → Quiet v m (cond b x y)
-if_then v m true x y f g = f
-if_then v m false x y f g = g
-
 quiet_message : (v : NodeValues) (m : Marks) (p : ℕ) (q : Message) → Quiet v m (node.message_step v m p q)
-quiet_message v m p q = at_port v m p (node.admitted v m p) _ (λ _ e. never e)
+quiet_message v m p q = at_port v m p (node.admitted v m p) _ (λ _ e. absurd (true≢false e))
 
 quiet_judged : (ring : List Seat) (s : Seat) (p : ℕ) (a : Answer Message) → Quiet s.values s.marks (judged ring s p a)
 quiet_judged ring s p (refused r) = λ _. (refl, refl)
 quiet_judged ring s p (gave q) =
-    if_then _ _ (names_nobody ring q.node) _ _ (λ _. (refl, refl)) (if_then _ _ (usurps ring q) _ _ (λ _. (refl, refl)) (quiet_message s.values s.marks p q))
+    let Q : Step → Type 0 = Quiet s.values s.marks in
+    cond_both (names_nobody ring q.node) _ _ Q (λ _ _. (refl, refl)) (λ _. cond_both (usurps ring q) _ _ Q (λ _ _. (refl, refl)) (λ _. quiet_message s.values s.marks p q))
 
 abbrev frame_said : Bool → Bool → Refusal → Refusal → Answer (Unit {0})
 frame_said short due a b = cond short (refused a) (cond due (gave tt) (refused b))
@@ -60,18 +54,18 @@ frame_said short due a b = cond short (refused a) (cond due (gave tt) (refused b
 quiet_frame : (v : NodeValues) (m : Marks) (short due : Bool) (w : NodeValues)
     → (a b : Refusal) → is_gave (frame_said short due a b) ≡ false → cond short v (cond due w v) ≡ v
 quiet_frame v m true due w a b e = refl
-quiet_frame v m false true w a b e = never e
+quiet_frame v m false true w a b e = absurd (true≢false e)
 quiet_frame v m false false w a b e = refl
 
 quiet : (ring : List Seat) (s : Seat) (a : Ask) → Quiet s.values s.marks (step_of ring s a)
-quiet ring s (force p) = at_port _ _ p (node.admitted s.values s.marks p) _ (λ _ e. never e)
-quiet ring s (switch p) = at_port _ _ p (node.admitted s.values s.marks p) _ (λ q. if_then _ _ (node.takes_manual s.values) _ _ (λ e. never e) (λ _. (refl, refl)))
-quiet ring s (fail p) = at_port _ _ p (node.admitted s.values s.marks p) _ (λ _ e. never e)
-quiet ring s (repair p) = at_port _ _ p (node.admitted s.values s.marks p) _ (λ _ e. never e)
-quiet ring s clear = in_step _ _ (node.in_step s.values.blocked s.marks.blocked) _ (if_then _ _ (node.takes_clear s.values) _ _ (λ e. never e) (λ _. (refl, refl)))
-quiet ring s tick = in_step _ _ (node.in_step s.values.blocked s.marks.blocked) _ (λ e. never e)
-quiet ring s restart = λ e. never e
-quiet ring s status = λ e. never e
+quiet ring s (force p) = at_port _ _ p (node.admitted s.values s.marks p) _ (λ _ e. absurd (true≢false e))
+quiet ring s (switch p) = at_port _ _ p (node.admitted s.values s.marks p) _ (λ q. cond_both (node.takes_manual s.values) _ _ (Quiet s.values s.marks) (λ _ e. absurd (true≢false e)) (λ _ _. (refl, refl)))
+quiet ring s (fail p) = at_port _ _ p (node.admitted s.values s.marks p) _ (λ _ e. absurd (true≢false e))
+quiet ring s (repair p) = at_port _ _ p (node.admitted s.values s.marks p) _ (λ _ e. absurd (true≢false e))
+quiet ring s clear = in_step _ _ (node.in_step s.values.blocked s.marks.blocked) _ (cond_both (node.takes_clear s.values) _ _ (Quiet s.values s.marks) (λ _ e. absurd (true≢false e)) (λ _ _. (refl, refl)))
+quiet ring s tick = in_step _ _ (node.in_step s.values.blocked s.marks.blocked) _ (λ e. absurd (true≢false e))
+quiet ring s restart = λ e. absurd (true≢false e)
+quiet ring s status = λ e. absurd (true≢false e)
 quiet ring s (deliver p f) = quiet_judged ring s p (node.question s.values s.marks p f)
 quiet ring s (frame b) = λ e. (quiet_frame s.values s.marks (ltb (length b) 55) (is_due s.values) _ _ _ e, refl)
 
@@ -142,7 +136,7 @@ module _ {F : Type 0} (marks : F → Marks) (kept : F → List (List ℕ)) (row 
                   ∙ ap (λ t. record { values = (step_at (call i a) (view marks row)).values; marks = t }) (s.marks ∙ ap (λ (t : Step). t.marks) steps))
                   ∙ sym (ap (λ g. moved_if g (set (view marks row) i (seat_after (call i a) (view marks row))) (view marks row)) o.passes);
               others = λ k d n. ap (λ r. get_or r k d) z ∙ get_or-set_other row i k _ d n;
-              refused = λ n. never n;
+              refused = λ n. absurd (true≢false n);
             };
           };
           host = subst (λ q. Keeps kept row q) (sym z) (hosts s.kept);

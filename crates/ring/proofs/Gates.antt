@@ -32,7 +32,7 @@ gate_shut ring i e h = ap (λ o. then_station o (ltb i (length ring))) h
 -- what an open gate shows
 if_none : {X : Type 0} (b : Bool) (o : Option X) (e : X) → cond b o (Some e) ≡ None → (b ≡ true) × (o ≡ None)
 if_none true o e h = (refl, h)
-if_none false o e h = absurd (let z : ◌≡◌ {A = ℕ} 0 1 = cc in omega arith)
+if_none false o e h = absurd cc
 
 pub open_counts : (ring : List Seat) → row_gate ring ≡ None → (count_fits (length ring) ≡ true) × (lawful_row ring ≡ true)
 open_counts ring h =
@@ -44,7 +44,7 @@ counts_open ring a b = rw (a, b)
 
 past_row : (o : Option RingFault) (b : Bool) → then_station o b ≡ None → (o ≡ None) × (b ≡ true)
 past_row None b h = (refl, (if_none b None NoStation h).0)
-past_row (Some e) b h = absurd (let z : ◌≡◌ {A = ℕ} 0 1 = cc in omega arith)
+past_row (Some e) b h = absurd cc
 
 pub open_row : (ring : List Seat) (i : ℕ) → gate ring i ≡ None → (row_gate ring ≡ None) × (i < length ring)
 open_row ring i h =
@@ -52,13 +52,13 @@ open_row ring i h =
     (a.0, ltb-true i (length ring) a.1)
 
 -- a refusal by 14 or 15 names no place
-nowhere_is : (a b : Bool) (e : RingFault) → cond a (cond b None (Some Unlawful)) (Some Count) ≡ Some e → ring_refusal (unplaced e) ≡ cause_at None e
-nowhere_is true true e h = absurd (let z : ◌≡◌ {A = ℕ} 0 1 = cc in omega arith)
-nowhere_is true false e h = let q : Unlawful ≡ e = cc in subst (λ f. ring_refusal (unplaced f) ≡ cause_at None f) q refl
-nowhere_is false b e h = let q : Count ≡ e = cc in subst (λ f. ring_refusal (unplaced f) ≡ cause_at None f) q refl
+names_no_place : (a b : Bool) (e : RingFault) → cond a (cond b None (Some Unlawful)) (Some Count) ≡ Some e → ring_refusal (unplaced e) ≡ cause_at None e
+names_no_place true true e h = absurd cc
+names_no_place true false e h = let q : Unlawful ≡ e = cc in subst (λ f. ring_refusal (unplaced f) ≡ cause_at None f) q refl
+names_no_place false b e h = let q : Count ≡ e = cc in subst (λ f. ring_refusal (unplaced f) ≡ cause_at None f) q refl
 
 pub row_refusal : (ring : List Seat) (e : RingFault) → row_gate ring ≡ Some e → ring_refusal (unplaced e) ≡ cause_at None e
-row_refusal ring e h = nowhere_is (count_fits (length ring)) (lawful_row ring) e h
+row_refusal ring e h = names_no_place (count_fits (length ring)) (lawful_row ring) e h
 
 -- in a lawful ring each station's values make a node
 pub lawful_node : (ring : List Seat) → lawful_row ring ≡ true → (k : ℕ) → k < length ring → makes_node (seat ring k).values ≡ true

@@ -1,9 +1,10 @@
 -- Stations set up one after the other. Assumes nothing.
-use Rattle.std.proofs.Common.{◌≡◌, ℕ, zero, suc, ◌+◌, ◌<◌, ◌≤◌, Bool, true, false, cond, not, ltb, ◌≢◌, List, [], ◌∷◌, length, get_or, set, Some, None, Option, sym, refl, ap, ◌∙◌, subst, ⊎_elim, arith, get_or-set_other, get_or-set_same}
+use Rattle.std.proofs.Common.{◌≡◌, ℕ, zero, suc, ◌+◌, ◌<◌, ◌≤◌, Bool, true, false, cond, not, ◌≢◌, List, [], ◌∷◌, length, get_or, set, Some, None, Option, sym, refl, ap, ◌∙◌, subst, ⊎_elim, arith, get_or-set_other, get_or-set_same}
 use Rattle.std.specs.Option.{option_map}
 use Rattle.std.proofs.lemmas.List.{get_or-map}
-use Rattle.std.specs.List.{position, position_or_len}
-use Rattle.std.proofs.lemmas.Bool.{cases_eq, cases_lt, lt-ltb, le-ltb, not-false}
+use Rattle.std.specs.List.{position, position_from}
+use Rattle.std.proofs.lemmas.Iterator.Adapters.{position_from-zero}
+use Rattle.std.proofs.lemmas.Bool.{cases_eq, not-false}
 use Rattle.fabric.specs.Marks.{Marks}
 use Rattle.frame.specs.Highest.{first_with}
 use Rattle.node.specs.declared.types.Settings.{Settings}
@@ -16,9 +17,9 @@ use Rattle.ring.proofs.Views.{view_set}
 -- ---- settings in range
 
 test_none : {X : Type 0} (test : X → Bool) (b : Bool) (o : Option ℕ) → cond b (Some 0) (option_map suc o) ≡ None → (b ≡ false) × (o ≡ None)
-test_none test true o h = absurd (let z : ◌≡◌ {A = ℕ} 0 1 = cc in omega arith)
+test_none test true o h = absurd cc
 test_none test false None h = (refl, refl)
-test_none test false (Some k) h = absurd (let z : ◌≡◌ {A = ℕ} 0 1 = cc in omega arith)
+test_none test false (Some k) h = absurd cc
 
 -- where the first that passes is none, none passes
 pub none_passes : {X : Type 0} (test : X → Bool) (xs : List X) (d : X) → first_with test xs ≡ None → (k : ℕ) → k < length xs → test (get_or xs k d) ≡ false
@@ -27,21 +28,21 @@ none_passes test (x ∷ xs) d h zero l = (test_none test (test x) (first_with te
 none_passes test (x ∷ xs) d h (suc k) l = none_passes test xs d (test_none test (test x) (first_with test xs) h).1 k (omega arith)
 
 -- the first that passes, as `position` gives it
-next_place : (p n : ℕ) → cond (ltb (1 + p) (suc n)) (Some (1 + p)) None ≡ option_map suc (cond (ltb p n) (Some p) None)
-next_place p n =
-    ⊎_elim
-    (λ (l : p < n). ap (λ b. cond b (Some (1 + p)) None) (lt-ltb (1 + p) (suc n) (omega arith)) ∙ ap Some (omega arith) ∙ ap (λ b. option_map suc (cond b (Some p) None)) (sym (lt-ltb p n l)))
-    (λ (l : n ≤ p). ap (λ b. cond b (Some (1 + p)) None) (le-ltb (1 + p) (suc n) (omega arith)) ∙ ap (λ b. option_map suc (cond b (Some p) None)) (sym (le-ltb p n l)))
-    (cases_lt p n)
-
-at_front : {X : Type 0} (test : X → Bool) (x : X) (xs : List X) (b : Bool) → test x ≡ b → position test xs ≡ first_with test xs
-    → cond (ltb (cond (not b) (1 + position_or_len test xs) 0) (suc (length xs))) (Some (cond (not b) (1 + position_or_len test xs) 0)) None ≡ cond b (Some 0) (option_map suc (first_with test xs))
-at_front test x xs true e h = ap (λ b. cond b (Some 0) None) (lt-ltb 0 (suc (length xs)) (omega arith))
-at_front test x xs false e h = next_place (position_or_len test xs) (length xs) ∙ ap (option_map suc) h
+placed_from : {X : Type 0} (test : X → Bool) (i : ℕ) (xs : List X) → position_from test i xs ≡ option_map (λ k. k + i) (first_with test xs)
+placed_from test i [] = refl
+placed_from test i (x ∷ xs) = ap (cond (test x) (Some i)) (placed_from test (i + 1) xs) ∙ further (test x) (first_with test xs)
+  where
+    further : (b : Bool) (o : Option ℕ) → cond b (Some i) (option_map (λ k. k + (i + 1)) o) ≡ option_map (λ k. k + i) (cond b (Some 0) (option_map suc o))
+    further true o = ap Some (omega arith)
+    further false None = refl
+    further false (Some k) = ap Some (omega arith)
 
 pub first_is : {X : Type 0} (test : X → Bool) (xs : List X) → position test xs ≡ first_with test xs
-first_is test [] = refl
-first_is test (x ∷ xs) = at_front test x xs (test x) refl (first_is test xs)
+first_is test xs = position_from-zero test xs ∙ placed_from test 0 xs ∙ unmoved (first_with test xs)
+  where
+    unmoved : (o : Option ℕ) → option_map (λ k. k + 0) o ≡ o
+    unmoved None = refl
+    unmoved (Some k) = ap Some (omega arith)
 
 pub in_range : (ss : List Settings) → first_with (λ g. not (settings_ok g)) ss ≡ None → (k : ℕ) → k < length ss → settings_ok (setting ss k) ≡ true
 in_range ss h k l = not-false (settings_ok (setting ss k)) (none_passes (λ g. not (settings_ok g)) ss no_settings h k l)

@@ -1,6 +1,6 @@
 -- What a call that is taken does to its station, from the laws of a node. Assumes nothing.
 use Rattle.std.proofs.Common.{◌≡◌, ℕ, zero, suc, Bool, true, false, cond, not, ◌&&◌, ◌||◌, ltb, List, length, Ok, Err, Result, ◌⊎◌, inl, inr, sym, refl, ap, ◌∙◌, subst, arith}
-use Rattle.std.proofs.lemmas.Bool.{true≢false}
+use Rattle.std.proofs.lemmas.Bool.{cond_both, true≢false}
 use Rattle.fabric.specs.Marks.{Marks}
 use Rattle.fabric.specs.declared.types.Ports.{Ports}
 use Rattle.frame.specs.Reading.{reading}
@@ -63,12 +63,6 @@ pub record Hears (ring : List Seat) (v : NodeValues) (f : List ℕ) (s : Step) :
   pub rightful : usurps ring message ≡ false
   pub becomes : s.values ≡ after (node.heard port message) v
 
-never : {Q : Type 0} → false ≡ true → Q
-never e = absurd (true≢false (sym e))
-
-never_true : {Q : Type 0} → true ≡ false → Q
-never_true e = absurd (true≢false e)
-
 -- ---- marks at a port
 
 set_at : (f : Ports) (q p : Port) → at (with_mark f q true) p ≡ (fails p (fail (port_number q)) || (not false && at f p))
@@ -96,22 +90,18 @@ at_port P v m zero next f = in_step (node.in_step v.blocked m.blocked)
   where
     in_step : (r : Result (Unit {0}) NodeFault) → is_gave (node.step_at v m 0 (node.and_in_step (Ok Zero) r) next).answer ≡ true → P (node.step_at v m 0 (node.and_in_step (Ok Zero) r) next)
     in_step (Ok u) h = f Zero refl h
-    in_step (Err e) h = never h
+    in_step (Err e) h = absurd (true≢false (sym h))
 at_port P v m (suc zero) next f = in_step (node.in_step v.blocked m.blocked)
   where
     in_step : (r : Result (Unit {0}) NodeFault) → is_gave (node.step_at v m 1 (node.and_in_step (Ok One) r) next).answer ≡ true → P (node.step_at v m 1 (node.and_in_step (Ok One) r) next)
     in_step (Ok u) h = f One refl h
-    in_step (Err e) h = never h
-at_port P v m (suc (suc n)) next f = λ h. never h
+    in_step (Err e) h = absurd (true≢false (sym h))
+at_port P v m (suc (suc n)) next f = λ h. absurd (true≢false (sym h))
 
 in_step : (P : Step → Type 0) (v : NodeValues) (m : Marks) (r : Result (Unit {0}) NodeFault) (next : Step)
     → (is_gave next.answer ≡ true → P next) → is_gave (node.step_in v m r next).answer ≡ true → P (node.step_in v m r next)
 in_step P v m (Ok u) next f = f
-in_step P v m (Err e) next f = λ h. never h
-
-if_then : (P : Step → Type 0) (b : Bool) (x y : Step) → (b ≡ true → is_gave x.answer ≡ true → P x) → (b ≡ false → is_gave y.answer ≡ true → P y) → is_gave (cond b x y).answer ≡ true → P (cond b x y)
-if_then P true x y f g = f refl
-if_then P false x y f g = g refl
+in_step P v m (Err e) next f = λ h. absurd (true≢false (sym h))
 
 module _ (laws : NodeLaws) (v : NodeValues) (ok : makes_node v ≡ true) (m : Marks) where
   -- a call of the node that is no delivery
@@ -139,39 +129,39 @@ module _ (laws : NodeLaws) (v : NodeValues) (ok : makes_node v ≡ true) (m : Ma
       calls (node.forced q) (force (port_number q)) refl tt
       (kept_marks _ _ (laws.failed.forces v q))
       (λ p. ap (λ (x : Ports). at x p) (laws.forced.forces v q ok) ∙ set_at v.commands.forced q p)
-      (stays (node.forced q) refl (λ e. let z : ◌≡◌ {A = ℕ} 0 1 = cc in omega arith))
+      (stays (node.forced q) refl (λ e. cc))
 
   takes_switch : (q : Port) → node.takes_manual v ≡ true → Takes v m (switch (port_number q)) (node.taken m (node.outcome (node.switched q) v))
   takes_switch q t =
       calls (node.switched q) (switch (port_number q)) refl t
       (kept_marks _ _ (laws.failed.switches v q)) (kept_marks _ _ (laws.forced.switches v q ok t))
-      (stays (node.switched q) refl (λ e. let z : ◌≡◌ {A = ℕ} 0 1 = cc in omega arith))
+      (stays (node.switched q) refl (λ e. cc))
 
   takes_fail : (q : Port) → Takes v m (fail (port_number q)) (node.taken m (node.outcome (node.failed q) v))
   takes_fail q =
       calls (node.failed q) (fail (port_number q)) refl tt
       (λ p. ap (λ (x : Ports). at x p) (laws.failed.fails v q) ∙ set_at v.failed q p)
       (kept_marks _ _ (laws.forced.fails v q ok))
-      (stays (node.failed q) refl (λ e. let z : ◌≡◌ {A = ℕ} 0 1 = cc in omega arith))
+      (stays (node.failed q) refl (λ e. cc))
 
   takes_repair : (q : Port) → Takes v m (repair (port_number q)) (node.taken m (node.outcome (node.repaired q) v))
   takes_repair q =
       calls (node.repaired q) (repair (port_number q)) refl tt
       (λ p. ap (λ (x : Ports). at x p) (laws.failed.repairs v q) ∙ unset_at v.failed q p)
       (kept_marks _ _ (laws.forced.repairs v q ok))
-      (stays (node.repaired q) refl (λ e. let z : ◌≡◌ {A = ℕ} 0 1 = cc in omega arith))
+      (stays (node.repaired q) refl (λ e. cc))
 
   takes_clear : node.takes_clear v ≡ true → Takes v m clear (node.taken m (node.outcome node.cleared v))
   takes_clear t =
       calls node.cleared clear refl t
       (kept_marks _ _ (laws.failed.clears v)) (λ p. ap (λ (x : Ports). at x p) (laws.forced.clears v ok) ∙ none_at p)
-      (stays node.cleared refl (λ e. let z : ◌≡◌ {A = ℕ} 0 1 = cc in omega arith))
+      (stays node.cleared refl (λ e. cc))
 
   takes_tick : Takes v m tick (node.taken m (node.outcome node.ticked v))
   takes_tick =
       calls node.ticked tick refl tt
       (kept_marks _ _ (laws.failed.ticks v)) (kept_marks _ _ (laws.forced.ticks v ok))
-      (stays node.ticked refl (λ e. let z : ◌≡◌ {A = ℕ} 0 1 = cc in omega arith))
+      (stays node.ticked refl (λ e. cc))
 
   takes_restart : Takes v m restart (node.taken m (node.outcome node.restarts v))
   takes_restart =
@@ -195,8 +185,8 @@ module _ (laws : NodeLaws) (v : NodeValues) (ok : makes_node v ≡ true) (m : Ma
 
   takes_frame : (b : List ℕ) (short due : Bool) (x y : Refusal) → is_due v ≡ due → is_gave (said short due x y) ≡ true
       → Takes v m (frame b) (record { answer = said short due x y; values = cond short v (cond due (after node.takes_frame v) v); marks = m })
-  takes_frame b true due x y d h = never h
-  takes_frame b false false x y d h = never h
+  takes_frame b true due x y d h = absurd (true≢false (sym h))
+  takes_frame b false false x y d h = absurd (true≢false (sym h))
   takes_frame b false true x y d h = record {
     rules = laws.rules.calls node.takes_frame v ok d;
     settings = refl;
@@ -214,8 +204,8 @@ module _ (laws : NodeLaws) (v : NodeValues) (ok : makes_node v ≡ true) (m : Ma
     ports = λ _. refl;
     failed = kept_marks _ _ (laws.failed.hears v q x);
     forced = kept_marks _ _ (laws.forced.hears v q x ok);
-    plain = λ e. never_true e;
-    block = λ e. never_true e;
+    plain = λ e. absurd (true≢false e);
+    block = λ e. absurd (true≢false e);
   }
 
   -- what a delivery that is taken shows
@@ -232,18 +222,18 @@ module _ (laws : NodeLaws) (v : NodeValues) (ok : makes_node v ≡ true) (m : Ma
   -- the question gave what was read
   read_so : (n : ℕ) (r : Result Port NodeFault) (a : Answer Message) (x : Message) → node.asking n r a ≡ gave x → a ≡ gave x
   read_so n (Ok q) (gave y) x e = e
-  read_so n (Ok q) (refused y) x e = absurd (let z : ◌≡◌ {A = ℕ} 0 1 = cc in omega arith)
-  read_so n (Err y) a x e = absurd (let z : ◌≡◌ {A = ℕ} 0 1 = cc in omega arith)
+  read_so n (Ok q) (refused y) x e = absurd cc
+  read_so n (Err y) a x e = absurd cc
 
   hears_judged : (ring : List Seat) (n : ℕ) (f : List ℕ) (a : Answer Message) → node.question v m n f ≡ a
       → is_gave (judged ring (record { values = v; marks = m }) n a).answer ≡ true → HeardSo ring n f (judged ring (record { values = v; marks = m }) n a)
   unfolding HeardSo
-  hears_judged ring n f (refused r) e = λ h. never h
+  hears_judged ring n f (refused r) e = λ h. absurd (true≢false (sym h))
   hears_judged ring n f (gave x) e =
       let read = read_so n (node.admitted v m n) (reading f v.settings.channel) x e in
-      let P : Step → Type 0 = λ s. Takes v m (deliver n f) s × Hears ring v f s in
-      if_then P (names_nobody ring x.node) _ _ (λ _ h. never h)
-      (λ a. if_then P (usurps ring x) _ _ (λ _ h. never h) (λ b. hears_message ring n f x read a b))
+      let P : Step → Type 0 = λ s. is_gave s.answer ≡ true → Takes v m (deliver n f) s × Hears ring v f s in
+      cond_both (names_nobody ring x.node) _ _ P (λ _ h. absurd (true≢false (sym h)))
+      (λ a. cond_both (usurps ring x) _ _ P (λ _ h. absurd (true≢false (sym h))) (λ b. hears_message ring n f x read a b))
 
   pub hears : (ring : List Seat) (n : ℕ) (f : List ℕ) → is_gave (step_of ring (record { values = v; marks = m }) (deliver n f)).answer ≡ true
       → Takes v m (deliver n f) (step_of ring (record { values = v; marks = m }) (deliver n f)) × Hears ring v f (step_of ring (record { values = v; marks = m }) (deliver n f))
@@ -254,13 +244,13 @@ module _ (laws : NodeLaws) (v : NodeValues) (ok : makes_node v ≡ true) (m : Ma
   takes ring (force n) = at_port (λ s. Takes v m (force n) s) v m n _ (λ q e _. subst (λ k. Takes v m (force k) (node.taken m (node.outcome (node.forced q) v))) (sym e) (takes_force q))
   takes ring (switch n) =
       at_port (λ s. Takes v m (switch n) s) v m n _
-      (λ q e. if_then (λ s. Takes v m (switch n) s) (node.takes_manual v) _ _
-      (λ t _. subst (λ k. Takes v m (switch k) (node.taken m (node.outcome (node.switched q) v))) (sym e) (takes_switch q t)) (λ _ h. never h))
+      (λ q e. cond_both (node.takes_manual v) _ _ (λ s. is_gave s.answer ≡ true → Takes v m (switch n) s)
+      (λ t _. subst (λ k. Takes v m (switch k) (node.taken m (node.outcome (node.switched q) v))) (sym e) (takes_switch q t)) (λ _ h. absurd (true≢false (sym h))))
   takes ring (fail n) = at_port (λ s. Takes v m (fail n) s) v m n _ (λ q e _. subst (λ k. Takes v m (fail k) (node.taken m (node.outcome (node.failed q) v))) (sym e) (takes_fail q))
   takes ring (repair n) = at_port (λ s. Takes v m (repair n) s) v m n _ (λ q e _. subst (λ k. Takes v m (repair k) (node.taken m (node.outcome (node.repaired q) v))) (sym e) (takes_repair q))
   takes ring clear =
       in_step (λ s. Takes v m clear s) v m (node.in_step v.blocked m.blocked) _
-      (if_then (λ s. Takes v m clear s) (node.takes_clear v) _ _ (λ t _. takes_clear t) (λ _ h. never h))
+      (cond_both (node.takes_clear v) _ _ (λ s. is_gave s.answer ≡ true → Takes v m clear s) (λ t _. takes_clear t) (λ _ h. absurd (true≢false (sym h))))
   takes ring tick = in_step (λ s. Takes v m tick s) v m (node.in_step v.blocked m.blocked) _ (λ _. takes_tick)
   takes ring restart = λ _. takes_restart
   takes ring status = λ _. takes_status

@@ -1,8 +1,14 @@
 -- Reading and writing a row, as it is seen. Assumes nothing.
-use Rattle.std.proofs.Common.{◌≡◌, ℕ, ◌<◌, Bool, List, [], ◌∷◌, map, length, get_or, set, sym, refl, ap, ◌∙◌}
+use Rattle.std.proofs.Common.{◌≡◌, ℕ, ◌<◌, Bool, true, false, Option, List, [], ◌∷◌, map, length, get_or, set, sym, refl, ap, ◌∙◌}
 use lib.ListN.{length-map}
 use Rattle.std.proofs.lemmas.List.{get_or-map, map-set}
-use Rattle.std.specs.List.{list_all}
+use Rattle.std.specs.Fn.{Called}
+use Rattle.std.specs.Iterator.{YieldsThen}
+use Rattle.std.specs.List.{FoldsTo, list_all}
+use Rattle.std.specs.Option.{MatchOption}
+use denote.Param.Members.{Mut}
+use Rattle.std.proofs.lemmas.Iterator.{YieldsList}
+use Rattle.std.proofs.lemmas.Iterator.Search.{all_from_yields_List}
 use Rattle.std.proofs.lemmas.List.Folds.{list_all-map}
 use Rattle.fabric.specs.Marks.{Marks}
 use Rattle.ring.specs.declared.station.Station.{Station}
@@ -14,8 +20,16 @@ module _ {F : Type 0} (marks : F → Marks) where
   seat_read row k x l e = get_or-map (seat_of marks) row k x blank l ∙ ap (seat_of marks) (sym e)
 
   -- a test of every station, read from the row
-  pub each_seat : (test : Seat → Bool) (row : List (Station F)) → list_all (λ s. test (seat_of marks s)) row ≡ all_below (λ k. test (seat (view marks row) k)) (length (view marks row))
+  each_seat : (test : Seat → Bool) (row : List (Station F)) → list_all (λ s. test (seat_of marks s)) row ≡ all_below (λ k. test (seat (view marks row) k)) (length (view marks row))
   each_seat test row = sym (list_all-map test (seat_of marks) row) ∙ list_below test blank (view marks row)
+
+  -- as `all` answers it
+  pub all_seats : {S A G : Type 0} {steps : S → Option A → S → Type 0} {v : A → Station F} {g : Mut G (A × Unit {0}) Bool} {s : S}
+      (test : Seat → Bool) (row : List (Station F)) (u : S) (f : G) (r : Bool)
+      → (xs : List A) × (o : Option A) × (j : G) × YieldsThen steps s xs o u × FoldsTo (λ p x q. Called g p (x, tt) true q) f xs j × MatchOption o (r ≡ true) (λ x. (r ≡ false) × ((h : G) × Called g j (x, tt) false h))
+      → YieldsList steps v s row → ((x : A) (b : Bool) (q : G) → Called g f (x, tt) b q → (q ≡ f) × (b ≡ test (seat_of marks (v x))))
+      → r ≡ all_below (λ k. test (seat (view marks row) k)) (length (view marks row))
+  all_seats test row u f r ran from here = all_from_yields_List (λ s. test (seat_of marks s)) u f r ran from here ∙ each_seat test row
 
   pub view_set : (row : List (Station F)) (k : ℕ) (x : Station F) → view marks (set row k x) ≡ set (view marks row) k (seat_of marks x)
   view_set row k x = map-set (seat_of marks) row k x

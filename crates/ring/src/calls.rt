@@ -5,10 +5,10 @@ ghost use Rattle.ring.specs.Calls.{Does, Done, call, clear, deliver, fail, force
 ghost use Rattle.ring.specs.Faults.{told_ring};
 ghost use Rattle.ring.specs.Row.{view};
 
-use crate::acting::perform;
+use crate::acting::check_and_act;
 use crate::delivery::hear;
 use crate::faults::RingRefusal;
-use crate::opening::{close, held, open};
+use crate::opening::{as_ring_answer, close, open};
 use crate::station::Station;
 use fabric::Fabric;
 use node::Status;
@@ -21,7 +21,7 @@ pub fn force<F: Fabric + Copy>(
 ) -> Result<(), RingRefusal>
     ensures { Done F.Fabric.marks F.Fabric.kept (call station (force port)) row.old (told_ring result) row.new }
 {
-    perform(
+    check_and_act(
         row,
         station,
         Some(port),
@@ -37,7 +37,7 @@ pub fn switch<F: Fabric + Copy>(
 ) -> Result<(), RingRefusal>
     ensures { Done F.Fabric.marks F.Fabric.kept (call station (switch port)) row.old (told_ring result) row.new }
 {
-    perform(
+    check_and_act(
         row,
         station,
         Some(port),
@@ -53,7 +53,7 @@ pub fn fail<F: Fabric + Copy>(
 ) -> Result<(), RingRefusal>
     ensures { Done F.Fabric.marks F.Fabric.kept (call station (fail port)) row.old (told_ring result) row.new }
 {
-    perform(
+    check_and_act(
         row,
         station,
         Some(port),
@@ -69,7 +69,7 @@ pub fn repair<F: Fabric + Copy>(
 ) -> Result<(), RingRefusal>
     ensures { Done F.Fabric.marks F.Fabric.kept (call station (repair port)) row.old (told_ring result) row.new }
 {
-    perform(
+    check_and_act(
         row,
         station,
         Some(port),
@@ -81,21 +81,21 @@ pub fn repair<F: Fabric + Copy>(
 pub fn clear<F: Fabric + Copy>(row: &mut [Station<F>], station: usize) -> Result<(), RingRefusal>
     ensures { Done F.Fabric.marks F.Fabric.kept (call station clear) row.old (told_ring result) row.new }
 {
-    perform(row, station, None, |at| at.node.clear(&mut at.fabric))
+    check_and_act(row, station, None, |at| at.node.clear(&mut at.fabric))
 }
 
 // One tick at a station.
 pub fn tick<F: Fabric + Copy>(row: &mut [Station<F>], station: usize) -> Result<(), RingRefusal>
     ensures { Done F.Fabric.marks F.Fabric.kept (call station tick) row.old (told_ring result) row.new }
 {
-    perform(row, station, None, |at| at.node.tick(&mut at.fabric))
+    check_and_act(row, station, None, |at| at.node.tick(&mut at.fabric))
 }
 
 // Starts a station again.
 pub fn restart<F: Fabric + Copy>(row: &mut [Station<F>], station: usize) -> Result<(), RingRefusal>
     ensures { Done F.Fabric.marks F.Fabric.kept (call station restart) row.old (told_ring result) row.new }
 {
-    perform(row, station, None, |at| {
+    check_and_act(row, station, None, |at| {
         at.node.restart(&mut at.fabric);
         Ok(())
     })
@@ -126,7 +126,7 @@ pub fn take_frame<F: Fabric + Copy>(
 {
     let mut at = open(row, station)?;
     let answer = at.node.take_frame(buffer);
-    close(row, station, None, at, held(answer))
+    close(row, station, None, at, as_ring_answer(answer))
 }
 
 // What a station's node holds but the flush pairs; changes nothing.

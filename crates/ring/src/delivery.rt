@@ -1,4 +1,4 @@
-// The delivery of a frame: the station is asked, the ring judges 17 and 18, then the message is taken.
+// The delivery of a frame: the station is asked, the ring judges refusals 17 and 18, then the message is taken.
 ghost use Rattle.std.specs.Prelude.{◌≡◌, Bool, not, ◌&&◌, length, Some, ◌==◌};
 ghost use Rattle.frame.specs.Ids.{id_number};
 ghost use Rattle.node.specs.Names.{is_owner};
@@ -16,10 +16,10 @@ use node::Role;
 fn has_id<F>(station: &Station<F>, node: NodeId) -> bool
     ensures { result ≡ (id_number station.now.values.settings.id == id_number node) }
 {
-    u64::from(station.values.settings.id) == u64::from(node)
+    station.values.settings.id == node
 }
 
-// 17: no station has this ID.
+// Refusal 17: no station has this ID.
 fn names_nobody<F: Fabric>(row: &[Station<F>], node: NodeId) -> bool
     ensures { result ≡ names_nobody (view F.Fabric.marks row.now) node }
 {
@@ -51,14 +51,14 @@ fn is_no_owners<F: Fabric>(row: &[Station<F>], node: NodeId) -> bool
     row.iter().all(|station| !is_owners(station, node))
 }
 
-// 18: NR,RB that names another than the owner.
+// Refusal 18: NR,RB that names another than the owner.
 fn usurps<F: Fabric>(row: &[Station<F>], message: Message) -> bool
     ensures { result ≡ usurps (view F.Fabric.marks row.now) message }
 {
     is_rb(message.body) && is_no_owners(row, message.node)
 }
 
-// 8, 9, 1 to 6, 17, 18, then the message.
+// Refusals 8, 9, 1 to 6, 17 and 18 in this order, then the message is taken.
 pub(crate) fn hear<F: Fabric>(
     row: &[Station<F>],
     at: &mut Live<F>,

@@ -69,12 +69,11 @@ fn fits<S: Settled>(row: &[S], k: usize, own: Settings) -> bool
 fn each_fits<S: Settled>(row: &[S]) -> bool
     ensures { result ≡ all_below (fits_at (map S.Settled.settled row.now)) (length row.now) }
 {
-    for (k, station) in row.iter().enumerate() {
-        if !fits(row, k, station.settings()) {
-            return false;
-        }
-    }
-    true
+    row.iter().enumerate().all(
+        |(k, station)|
+            requires { k < length row.now }
+        { fits(row, k, station.settings()) },
+    )
 }
 
 fn count_owners<S: Settled>(row: &[S]) -> usize

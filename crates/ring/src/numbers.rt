@@ -1,5 +1,5 @@
-// What a ring's refusal tells: number and octet of its cause; its places stand beside it. Neither is a conversion, since
-// each alone loses the other.
+// What a ring's refusal tells: number and octet of its cause, and the port that it is to name; its places stand beside it.
+// None is a conversion, since each alone loses the others.
 ghost use Rattle.std.specs.Prelude.{◌≡◌, ℕ, Option};
 ghost use Rattle.ring.specs.Faults.{cause_at};
 
@@ -25,6 +25,17 @@ impl RingFault {
         match self {
             RingFault::Node(fault) => fault.octet(),
             _ => None,
+        }
+    }
+
+    // Given the port that the call names.
+    pub(crate) fn port(self, called: Option<u8>) -> Option<u8>
+        ensures { result ≡ (cause_at called self).port }
+    {
+        match self {
+            RingFault::Count | RingFault::Unlawful | RingFault::NoStation => None,
+            RingFault::Unnamed | RingFault::NotOwner => called,
+            RingFault::Node(fault) => fault.port(called),
         }
     }
 }

@@ -14,7 +14,7 @@ use crate::station::{Live, Station};
 use fabric::Fabric;
 use node::{Node, NodeFault};
 
-// 14, 15.
+// Refusals 14 and 15.
 pub(crate) fn check<F: Fabric>(row: &[Station<F>]) -> Result<(), RingFault>
     ensures { Results.MatchResult result (λ _. row_gate (view F.Fabric.marks row.now) ≡ None) (λ e. row_gate (view F.Fabric.marks row.now) ≡ Some e) }
 {
@@ -27,7 +27,7 @@ pub(crate) fn check<F: Fabric>(row: &[Station<F>]) -> Result<(), RingFault>
     Ok(())
 }
 
-// 16: a station, in a row that was checked.
+// Refusal 16: a station, in a row that was checked.
 pub(crate) fn enter<F: Fabric + Copy>(
     row: &[Station<F>],
     station: usize,
@@ -43,7 +43,7 @@ pub(crate) fn enter<F: Fabric + Copy>(
     })
 }
 
-// 14, 15, 16: a station, where the row is lawful and has it.
+// Refusals 14, 15 and 16: a station, where the row is lawful and has it.
 pub(crate) fn open<F: Fabric + Copy>(
     row: &[Station<F>],
     station: usize,
@@ -55,20 +55,10 @@ pub(crate) fn open<F: Fabric + Copy>(
 }
 
 // A node's answer as a ring's: its refusal is held whole.
-pub(crate) fn held(answer: Result<(), NodeFault>) -> Result<(), RingFault>
+pub(crate) fn as_ring_answer(answer: Result<(), NodeFault>) -> Result<(), RingFault>
     ensures { (p : Option ℕ) → told_cause p result ≡ told_at p answer }
 {
     Ok(answer?)
-}
-
-fn port_of(cause: RingFault, called: Option<u8>) -> Option<u8>
-    ensures { result ≡ (cause_at called cause).port }
-{
-    match cause {
-        RingFault::Count | RingFault::Unlawful | RingFault::NoStation => None,
-        RingFault::Unnamed | RingFault::NotOwner => called,
-        RingFault::Node(fault) => fault.port(called),
-    }
 }
 
 pub(crate) fn at_station(station: usize, called: Option<u8>, cause: RingFault) -> RingRefusal
@@ -76,7 +66,7 @@ pub(crate) fn at_station(station: usize, called: Option<u8>, cause: RingFault) -
 {
     RingRefusal {
         station: Some(station),
-        port: port_of(cause, called),
+        port: cause.port(called),
         cause,
     }
 }

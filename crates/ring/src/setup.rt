@@ -16,7 +16,7 @@ use crate::station::Station;
 use fabric::Fabric;
 use node::{Node, NodeFault, Settings, settings_ok};
 
-// 13: the first station whose settings are out of range.
+// Refusal 13: the first station whose settings are out of range.
 fn first_at_fault(settings: &[Settings]) -> Option<usize>
     ensures { result ≡ first_with (λ g. not (settings_ok g)) settings.now }
 {

@@ -3,7 +3,7 @@ ghost use Rattle.std.specs.Prelude.{◌≡◌};
 ghost use Rattle.ring.specs.Calls.{Keeps, Ticks};
 ghost use Rattle.ring.specs.Faults.{told_ring};
 
-use crate::acting::act;
+use crate::acting::act_in_checked;
 use crate::faults::RingRefusal;
 use crate::opening::check;
 use crate::resting::node_laws;
@@ -27,7 +27,7 @@ pub fn ticks<F: Fabric + Copy>(
     check(row)?;
     let tick = |at: &mut Live<F>| at.node.tick(&mut at.fabric);
     for _ in 1..count {
-        act(row, station, None, tick)?;
+        act_in_checked(row, station, None, tick)?;
     }
-    act(row, station, None, tick)
+    act_in_checked(row, station, None, tick)
 }
