@@ -7,15 +7,6 @@ use Rattle.std.proofs.lemmas.List.Sums.{AllPass-from_list_all, list_all-from_All
 use Rattle.std.proofs.lemmas.Bool.{and_parts, and_from, and_left, and_right, cases_eq}
 use Rattle.ring.specs.Row.{all_below, count_below, one_if}
 
-pub below_more : (f : ℕ → Bool) (k : ℕ) → all_below f k ≡ true → f k ≡ true → all_below f (k + 1) ≡ true
-below_more f k h e = rw add-one (and_from (f k) (all_below f k) e h)
-
-pub below_stops : (f : ℕ → Bool) (k n : ℕ) → k < n → f k ≡ false → all_below f n ≡ false
-below_stops f k zero l e = absurd (omega arith)
-below_stops f k (suc n) l e =
-    ⊎_elim (λ (q : k ≡ n). and_left (f n) (all_below f n) (subst (λ m. f m ≡ false) q e))
-    (λ (q : k ≡ n → ⊥). and_right (f n) (all_below f n) (below_stops f k n (omega arith) e)) (cases_eq k n)
-
 pub below_at : (f : ℕ → Bool) (n : ℕ) → all_below f n ≡ true → (k : ℕ) → k < n → f k ≡ true
 below_at f zero h k l = absurd (omega arith)
 below_at f (suc n) h k l =

@@ -8,7 +8,7 @@ pub struct Station<F> {
     pub fabric: F,
 }
 
-// A station that a call works on: its node, which keeps every rule, and its fabric.
+// A station that a call works on: its node, which keeps every rule, and its fabric. It derives what a node has.
 #[derive(Clone, Copy)]
 pub(crate) struct Live<F> {
     pub(crate) node: Node,
