@@ -25,7 +25,7 @@ distinct_rising ys s = IsDistinct-from_apart eqb ys (λ i j d l m. ne_eqb _ _ (�
 -- what `is_sorted_by` answers where it compares by `<`
 pub rising_is : (ys : List ℕ) (r : Bool) → IsAllAdjacentAnswer (λ x y b. b ≡ ltb x y) ys r → Decides r (IsStrictlyIncreasing ys)
 rising_is ys true h = ((λ _ k l. ltb-true _ _ (sym (h k 0 l))), λ _. refl)
-rising_is ys false (k, l, h) = ((λ e. absurd (true≢false (sym e))), λ s. absurd (true≢false (sym (lt-ltb _ _ (s k l)) ∙ sym (h 0))))
+rising_is ys false (k, l, h) = ((λ e. absurd cc), λ s. absurd (true≢false (sym (lt-ltb _ _ (s k l)) ∙ sym (h 0))))
 
 -- an array made by a closure that changes nothing, at those of its places where it is known what the closure gives
 module _ {F B : Type 0} (g : Mut F (ℕ × Unit {0}) B) (of : ℕ → B) (m : ℕ) (f : F)

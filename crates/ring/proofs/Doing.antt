@@ -1,6 +1,6 @@
 -- From what a node's call does to what the ring's call does. Assumes nothing.
 use Rattle.std.proofs.Common.{◌≡◌, ℕ, zero, suc, ◌<◌, Bool, true, false, cond, ltb, List, [], ◌∷◌, length, get_or, set, is_ok, Some, None, Ok, Err, Option, Result, sym, refl, ap, ◌∙◌, subst, arith, get_or-set_other}
-use Rattle.std.proofs.lemmas.Bool.{cond_both, true≢false}
+use Rattle.std.proofs.lemmas.Bool.{cond_both}
 use Rattle.std.proofs.lemmas.List.{get_or-map, set-get_or}
 use Rattle.fabric.specs.Marks.{Marks}
 use Rattle.frame.specs.Refusals.{Refusal, Answer, gave, refused}
@@ -40,7 +40,7 @@ in_step v m (Ok u) next h = h
 in_step v m (Err e) next h = λ _. (refl, refl)
 
 quiet_message : (v : NodeValues) (m : Marks) (p : ℕ) (q : Message) → Quiet v m (node.message_step v m p q)
-quiet_message v m p q = at_port v m p (node.admitted v m p) _ (λ _ e. absurd (true≢false e))
+quiet_message v m p q = at_port v m p (node.admitted v m p) _ (λ _ e. absurd cc)
 
 quiet_judged : (ring : List Seat) (s : Seat) (p : ℕ) (a : Answer Message) → Quiet s.values s.marks (judged ring s p a)
 quiet_judged ring s p (refused r) = λ _. (refl, refl)
@@ -54,18 +54,18 @@ frame_said short due a b = cond short (refused a) (cond due (gave tt) (refused b
 quiet_frame : (v : NodeValues) (m : Marks) (short due : Bool) (w : NodeValues)
     → (a b : Refusal) → is_gave (frame_said short due a b) ≡ false → cond short v (cond due w v) ≡ v
 quiet_frame v m true due w a b e = refl
-quiet_frame v m false true w a b e = absurd (true≢false e)
+quiet_frame v m false true w a b e = absurd cc
 quiet_frame v m false false w a b e = refl
 
 quiet : (ring : List Seat) (s : Seat) (a : Ask) → Quiet s.values s.marks (step_of ring s a)
-quiet ring s (force p) = at_port _ _ p (node.admitted s.values s.marks p) _ (λ _ e. absurd (true≢false e))
-quiet ring s (switch p) = at_port _ _ p (node.admitted s.values s.marks p) _ (λ q. cond_both (node.takes_manual s.values) _ _ (Quiet s.values s.marks) (λ _ e. absurd (true≢false e)) (λ _ _. (refl, refl)))
-quiet ring s (fail p) = at_port _ _ p (node.admitted s.values s.marks p) _ (λ _ e. absurd (true≢false e))
-quiet ring s (repair p) = at_port _ _ p (node.admitted s.values s.marks p) _ (λ _ e. absurd (true≢false e))
-quiet ring s clear = in_step _ _ (node.in_step s.values.blocked s.marks.blocked) _ (cond_both (node.takes_clear s.values) _ _ (Quiet s.values s.marks) (λ _ e. absurd (true≢false e)) (λ _ _. (refl, refl)))
-quiet ring s tick = in_step _ _ (node.in_step s.values.blocked s.marks.blocked) _ (λ e. absurd (true≢false e))
-quiet ring s restart = λ e. absurd (true≢false e)
-quiet ring s status = λ e. absurd (true≢false e)
+quiet ring s (force p) = at_port _ _ p (node.admitted s.values s.marks p) _ (λ _ e. absurd cc)
+quiet ring s (switch p) = at_port _ _ p (node.admitted s.values s.marks p) _ (λ q. cond_both (node.takes_manual s.values) _ _ (Quiet s.values s.marks) (λ _ e. absurd cc) (λ _ _. (refl, refl)))
+quiet ring s (fail p) = at_port _ _ p (node.admitted s.values s.marks p) _ (λ _ e. absurd cc)
+quiet ring s (repair p) = at_port _ _ p (node.admitted s.values s.marks p) _ (λ _ e. absurd cc)
+quiet ring s clear = in_step _ _ (node.in_step s.values.blocked s.marks.blocked) _ (cond_both (node.takes_clear s.values) _ _ (Quiet s.values s.marks) (λ _ e. absurd cc) (λ _ _. (refl, refl)))
+quiet ring s tick = in_step _ _ (node.in_step s.values.blocked s.marks.blocked) _ (λ e. absurd cc)
+quiet ring s restart = λ e. absurd cc
+quiet ring s status = λ e. absurd cc
 quiet ring s (deliver p f) = quiet_judged ring s p (node.question s.values s.marks p f)
 quiet ring s (frame b) = λ e. (quiet_frame s.values s.marks (ltb (length b) 55) (is_due s.values) _ _ _ e, refl)
 
@@ -136,7 +136,7 @@ module _ {F : Type 0} (marks : F → Marks) (kept : F → List (List ℕ)) (row 
                   ∙ ap (λ t. record { values = (step_at (call i a) (view marks row)).values; marks = t }) (s.marks ∙ ap (λ (t : Step). t.marks) steps))
                   ∙ sym (ap (λ g. moved_if g (set (view marks row) i (seat_after (call i a) (view marks row))) (view marks row)) o.passes);
               others = λ k d n. ap (λ r. get_or r k d) z ∙ get_or-set_other row i k _ d n;
-              refused = λ n. absurd (true≢false n);
+              refused = λ n. absurd cc;
             };
           };
           host = subst (λ q. Keeps kept row q) (sym z) (hosts s.kept);

@@ -1,5 +1,5 @@
 -- When a call of a ring may go on. Assumes nothing.
-use Rattle.std.proofs.Common.{◌≡◌, ℕ, ◌<◌, Bool, true, false, cond, ◌&&◌, ltb, List, map, length, Some, None, Option, IsSome, MatchOption, sym, refl, ap, ◌∙◌, subst, arith}
+use Rattle.std.proofs.Common.{◌≡◌, ℕ, ◌<◌, Bool, true, false, cond, ◌&&◌, ltb, List, map, length, Some, None, Option, IsSome, MatchOption, sym, refl, ap, ◌∙◌, subst}
 use Rattle.std.proofs.lemmas.Bool.{and_parts, ltb-true}
 use Rattle.fabric.specs.Marks.{Marks}
 use Rattle.node.specs.declared.node.Node.{Node}

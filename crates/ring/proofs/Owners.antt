@@ -1,7 +1,7 @@
 -- A station that a message names, and an owner that hears no NR,RB but its own. Assumes nothing.
 use Rattle.std.proofs.Common.{◌≡◌, ℕ, zero, suc, ◌<◌, Bool, true, false, not, ◌&&◌, eqb, List, length, sym, refl, ap, ◌∙◌, subst, ⊎_elim, arith}
 use lib.ListN.{length-map}
-use Rattle.std.proofs.lemmas.Bool.{and_parts, and_cases, not-false, eqb-true, eq-eqb, true≢false}
+use Rattle.std.proofs.lemmas.Bool.{and_parts, and_cases, not-false, eqb-true, eq-eqb}
 use Rattle.std.proofs.lemmas.List.{get_or-map}
 use Rattle.frame.specs.Ids.{id_number}
 use Rattle.frame.specs.declared.types.Body.{Body}
@@ -17,7 +17,7 @@ use Rattle.ring.proofs.Below.{only_one}
 
 -- where a test does not pass everywhere, it fails somewhere
 fails_somewhere : (f : ℕ → Bool) (n : ℕ) → all_below f n ≡ false → (k : ℕ) × (k < n) × (f k ≡ false)
-fails_somewhere f zero h = absurd (true≢false h)
+fails_somewhere f zero h = absurd cc
 fails_somewhere f (suc n) h =
     ⊎_elim (λ (e : f n ≡ false). (n, omega arith, e))
     (λ (e : all_below f n ≡ false). let r = fails_somewhere f n e in (r.0, omega (arith, r.1), r.2)) (and_cases (f n) (all_below f n) h)

@@ -1,5 +1,5 @@
 -- Lawful settings, read from what has settings. Assumes nothing.
-use Rattle.std.proofs.Common.{◌≡◌, ℕ, ◌<◌, Bool, ◌&&◌, eqb, List, [], ◌∷◌, map, length, get_or, zero-add, sym, refl, ap, ◌∙◌}
+use Rattle.std.proofs.Common.{◌≡◌, ℕ, Bool, ◌&&◌, eqb, List, [], ◌∷◌, map, length, get_or, zero-add, sym, refl, ap, ◌∙◌}
 use lib.ListN.{length-map}
 use Rattle.std.specs.List.{count_by, list_all, enumerate_from}
 use Rattle.std.proofs.lemmas.List.FromFn.{length-enumerate_from, get_or-enumerate_from}

@@ -1,6 +1,6 @@
 -- What a call that is taken does to its station, from the laws of a node. Assumes nothing.
-use Rattle.std.proofs.Common.{◌≡◌, ℕ, zero, suc, Bool, true, false, cond, not, ◌&&◌, ◌||◌, ltb, List, length, Ok, Err, Result, ◌⊎◌, inl, inr, sym, refl, ap, ◌∙◌, subst, arith}
-use Rattle.std.proofs.lemmas.Bool.{cond_both, true≢false}
+use Rattle.std.proofs.Common.{◌≡◌, ℕ, zero, suc, Bool, true, false, cond, not, ◌&&◌, ◌||◌, ltb, List, length, Ok, Err, Result, ◌⊎◌, inl, inr, sym, refl, ap, ◌∙◌, subst}
+use Rattle.std.proofs.lemmas.Bool.{cond_both}
 use Rattle.fabric.specs.Marks.{Marks}
 use Rattle.fabric.specs.declared.types.Ports.{Ports}
 use Rattle.frame.specs.Reading.{reading}
@@ -90,18 +90,18 @@ at_port P v m zero next f = in_step (node.in_step v.blocked m.blocked)
   where
     in_step : (r : Result (Unit {0}) NodeFault) → is_gave (node.step_at v m 0 (node.and_in_step (Ok Zero) r) next).answer ≡ true → P (node.step_at v m 0 (node.and_in_step (Ok Zero) r) next)
     in_step (Ok u) h = f Zero refl h
-    in_step (Err e) h = absurd (true≢false (sym h))
+    in_step (Err e) h = absurd cc
 at_port P v m (suc zero) next f = in_step (node.in_step v.blocked m.blocked)
   where
     in_step : (r : Result (Unit {0}) NodeFault) → is_gave (node.step_at v m 1 (node.and_in_step (Ok One) r) next).answer ≡ true → P (node.step_at v m 1 (node.and_in_step (Ok One) r) next)
     in_step (Ok u) h = f One refl h
-    in_step (Err e) h = absurd (true≢false (sym h))
-at_port P v m (suc (suc n)) next f = λ h. absurd (true≢false (sym h))
+    in_step (Err e) h = absurd cc
+at_port P v m (suc (suc n)) next f = λ h. absurd cc
 
 in_step : (P : Step → Type 0) (v : NodeValues) (m : Marks) (r : Result (Unit {0}) NodeFault) (next : Step)
     → (is_gave next.answer ≡ true → P next) → is_gave (node.step_in v m r next).answer ≡ true → P (node.step_in v m r next)
 in_step P v m (Ok u) next f = f
-in_step P v m (Err e) next f = λ h. absurd (true≢false (sym h))
+in_step P v m (Err e) next f = λ h. absurd cc
 
 module _ (laws : NodeLaws) (v : NodeValues) (ok : makes_node v ≡ true) (m : Marks) where
   -- a call of the node that is no delivery
@@ -185,8 +185,8 @@ module _ (laws : NodeLaws) (v : NodeValues) (ok : makes_node v ≡ true) (m : Ma
 
   takes_frame : (b : List ℕ) (short due : Bool) (x y : Refusal) → is_due v ≡ due → is_gave (said short due x y) ≡ true
       → Takes v m (frame b) (record { answer = said short due x y; values = cond short v (cond due (after node.takes_frame v) v); marks = m })
-  takes_frame b true due x y d h = absurd (true≢false (sym h))
-  takes_frame b false false x y d h = absurd (true≢false (sym h))
+  takes_frame b true due x y d h = absurd cc
+  takes_frame b false false x y d h = absurd cc
   takes_frame b false true x y d h = record {
     rules = laws.rules.calls node.takes_frame v ok d;
     settings = refl;
@@ -204,8 +204,8 @@ module _ (laws : NodeLaws) (v : NodeValues) (ok : makes_node v ≡ true) (m : Ma
     ports = λ _. refl;
     failed = kept_marks _ _ (laws.failed.hears v q x);
     forced = kept_marks _ _ (laws.forced.hears v q x ok);
-    plain = λ e. absurd (true≢false e);
-    block = λ e. absurd (true≢false e);
+    plain = λ e. absurd cc;
+    block = λ e. absurd cc;
   }
 
   -- what a delivery that is taken shows
@@ -228,12 +228,12 @@ module _ (laws : NodeLaws) (v : NodeValues) (ok : makes_node v ≡ true) (m : Ma
   hears_judged : (ring : List Seat) (n : ℕ) (f : List ℕ) (a : Answer Message) → node.question v m n f ≡ a
       → is_gave (judged ring (record { values = v; marks = m }) n a).answer ≡ true → HeardSo ring n f (judged ring (record { values = v; marks = m }) n a)
   unfolding HeardSo
-  hears_judged ring n f (refused r) e = λ h. absurd (true≢false (sym h))
+  hears_judged ring n f (refused r) e = λ h. absurd cc
   hears_judged ring n f (gave x) e =
       let read = read_so n (node.admitted v m n) (reading f v.settings.channel) x e in
       let P : Step → Type 0 = λ s. is_gave s.answer ≡ true → Takes v m (deliver n f) s × Hears ring v f s in
-      cond_both (names_nobody ring x.node) _ _ P (λ _ h. absurd (true≢false (sym h)))
-      (λ a. cond_both (usurps ring x) _ _ P (λ _ h. absurd (true≢false (sym h))) (λ b. hears_message ring n f x read a b))
+      cond_both (names_nobody ring x.node) _ _ P (λ _ h. absurd cc)
+      (λ a. cond_both (usurps ring x) _ _ P (λ _ h. absurd cc) (λ b. hears_message ring n f x read a b))
 
   pub hears : (ring : List Seat) (n : ℕ) (f : List ℕ) → is_gave (step_of ring (record { values = v; marks = m }) (deliver n f)).answer ≡ true
       → Takes v m (deliver n f) (step_of ring (record { values = v; marks = m }) (deliver n f)) × Hears ring v f (step_of ring (record { values = v; marks = m }) (deliver n f))
@@ -245,12 +245,12 @@ module _ (laws : NodeLaws) (v : NodeValues) (ok : makes_node v ≡ true) (m : Ma
   takes ring (switch n) =
       at_port (λ s. Takes v m (switch n) s) v m n _
       (λ q e. cond_both (node.takes_manual v) _ _ (λ s. is_gave s.answer ≡ true → Takes v m (switch n) s)
-      (λ t _. subst (λ k. Takes v m (switch k) (node.taken m (node.outcome (node.switched q) v))) (sym e) (takes_switch q t)) (λ _ h. absurd (true≢false (sym h))))
+      (λ t _. subst (λ k. Takes v m (switch k) (node.taken m (node.outcome (node.switched q) v))) (sym e) (takes_switch q t)) (λ _ h. absurd cc))
   takes ring (fail n) = at_port (λ s. Takes v m (fail n) s) v m n _ (λ q e _. subst (λ k. Takes v m (fail k) (node.taken m (node.outcome (node.failed q) v))) (sym e) (takes_fail q))
   takes ring (repair n) = at_port (λ s. Takes v m (repair n) s) v m n _ (λ q e _. subst (λ k. Takes v m (repair k) (node.taken m (node.outcome (node.repaired q) v))) (sym e) (takes_repair q))
   takes ring clear =
       in_step (λ s. Takes v m clear s) v m (node.in_step v.blocked m.blocked) _
-      (cond_both (node.takes_clear v) _ _ (λ s. is_gave s.answer ≡ true → Takes v m clear s) (λ t _. takes_clear t) (λ _ h. absurd (true≢false (sym h))))
+      (cond_both (node.takes_clear v) _ _ (λ s. is_gave s.answer ≡ true → Takes v m clear s) (λ t _. takes_clear t) (λ _ h. absurd cc))
   takes ring tick = in_step (λ s. Takes v m tick s) v m (node.in_step v.blocked m.blocked) _ (λ _. takes_tick)
   takes ring restart = λ _. takes_restart
   takes ring status = λ _. takes_status
