@@ -4,8 +4,14 @@ use Rattle.std.specs.List.{list_all, count_by, AllPass}
 use Rattle.std.proofs.lemmas.Bool.Decides.{same_from_decides}
 use Rattle.std.proofs.lemmas.List.Elements.{All-from_get_or}
 use Rattle.std.proofs.lemmas.List.Sums.{AllPass-from_list_all, list_all-from_AllPass, sum_by-cons}
-use Rattle.std.proofs.lemmas.Bool.{and_parts, and_from, cases_eq}
+use Rattle.std.proofs.lemmas.Bool.{and_parts, and_from, and_left, and_right, cases_eq}
 use Rattle.ring.specs.Row.{all_below, count_below, one_if}
+
+pub below_stops : (f : ℕ → Bool) (k n : ℕ) → k < n → f k ≡ false → all_below f n ≡ false
+below_stops f k zero l e = absurd (omega arith)
+below_stops f k (suc n) l e =
+    ⊎_elim (λ (q : k ≡ n). and_left (f n) (all_below f n) (subst (λ m. f m ≡ false) q e))
+    (λ (q : k ≡ n → ⊥). and_right (f n) (all_below f n) (below_stops f k n (omega arith) e)) (cases_eq k n)
 
 pub below_at : (f : ℕ → Bool) (n : ℕ) → all_below f n ≡ true → (k : ℕ) → k < n → f k ≡ true
 below_at f zero h k l = absurd (omega arith)

@@ -3,6 +3,7 @@ pub mod Distincts
 pub mod Doing
 pub mod Gates
 pub mod Lasting
+pub mod LastBlock
 pub mod Law
 pub mod Owners
 pub mod Settles

@@ -1,7 +1,7 @@
--- A station that a message names, and an owner that hears no NR,RB but its own. Assumes nothing.
-use Rattle.std.proofs.Common.{◌≡◌, ℕ, zero, suc, ◌<◌, Bool, true, false, not, ◌&&◌, eqb, List, length, sym, refl, ap, ◌∙◌, subst, ⊎_elim, arith}
+-- A station that a message names, one owner, IDs apart, and an owner that hears no NR,RB but its own. Assumes nothing.
+use Rattle.std.proofs.Common.{◌≡◌, ℕ, zero, suc, ◌<◌, ◌≤◌, Bool, true, false, not, ◌&&◌, eqb, List, length, sym, refl, ap, ◌∙◌, subst, ⊎_elim, arith}
 use lib.ListN.{length-map}
-use Rattle.std.proofs.lemmas.Bool.{and_parts, and_cases, not-false, eqb-true, eq-eqb}
+use Rattle.std.proofs.lemmas.Bool.{and_parts, and_cases, cases_lt, not-false, eqb-true, eq-eqb, true≢false}
 use Rattle.std.proofs.lemmas.List.{get_or-map}
 use Rattle.frame.specs.Ids.{id_number}
 use Rattle.frame.specs.declared.types.Body.{Body}
@@ -12,8 +12,8 @@ use Rattle.node.specs.Laws.{body_sets}
 use Rattle.node.specs.Names.{is_owner}
 use Rattle.node.specs.Receiving.{is_own, is_rpl_blocked}
 use Rattle.ring.specs.Calls.{is_owners, is_rb, names_nobody, usurps}
-use Rattle.ring.specs.Row.{Seat, seat, setting, ring_settings, lawful, fits_at, distinct_ids, all_below, owners, blank}
-use Rattle.ring.proofs.Below.{only_one}
+use Rattle.ring.specs.Row.{Seat, seat, setting, ring_settings, lawful, fits_at, distinct_ids, new_id, all_below, owners, blank}
+use Rattle.ring.proofs.Below.{below_at, only_one}
 
 -- where a test does not pass everywhere, it fails somewhere
 fails_somewhere : (f : ℕ → Bool) (n : ℕ) → all_below f n ≡ false → (k : ℕ) × (k < n) × (f k ≡ false)
@@ -29,14 +29,40 @@ named_station ring n h =
     let r = fails_somewhere (λ k. not (eqb (id_number (seat ring k).values.settings.id) (id_number n))) (length ring) h in
     (r.0, r.1, eqb-true _ _ (not-false (eqb (id_number (seat ring r.0).values.settings.id) (id_number n)) r.2))
 
-role_at : (ring : List Seat) (k : ℕ) → k < length ring → (setting (ring_settings ring) k).role ≡ (seat ring k).values.settings.role
-role_at ring k l = ap (λ s. s.role) (get_or-map (λ s. s.values.settings) ring k blank _ l)
+setting_at : (ring : List Seat) (k : ℕ) → k < length ring → setting (ring_settings ring) k ≡ (seat ring k).values.settings
+setting_at ring k l = get_or-map (λ s. s.values.settings) ring k blank _ l
 
 one_owner : (ring : List Seat) → lawful (ring_settings ring) ≡ true → owners (ring_settings ring) ≡ 1
 unfolding lawful
 one_owner ring law =
     let ss = ring_settings ring in
     eqb-true (owners ss) 1 (and_parts (all_below (fits_at ss) (length ss)) (eqb (owners ss) 1) (and_parts (distinct_ids ss) _ law).1).1
+
+-- so a station that is an owner is the owner
+pub only_owner : (ring : List Seat) → lawful (ring_settings ring) ≡ true → (k i : ℕ) → k < length ring → i < length ring
+    → is_owner (seat ring k).values.settings.role ≡ true → is_owner (seat ring i).values.settings.role ≡ true → k ≡ i
+only_owner ring law k i m l a b =
+    let ss = ring_settings ring in
+    let n : length ss ≡ length ring = length-map ring (λ s. s.values.settings) in
+    only_one (λ k. is_owner (setting ss k).role) (length ss) (one_owner ring law) k i (subst (λ t. k < t) (sym n) m) (subst (λ t. i < t) (sym n) l)
+    (ap (λ s. is_owner s.role) (setting_at ring k m) ∙ a) (ap (λ s. is_owner s.role) (setting_at ring i l) ∙ b)
+
+-- no two stations have the same ID
+first_apart : (ring : List Seat) → lawful (ring_settings ring) ≡ true → (j k : ℕ) → j < k → k < length ring
+    → id_number (seat ring j).values.settings.id ≡ id_number (seat ring k).values.settings.id → ⊥
+unfolding lawful
+first_apart ring law j k l m e =
+    let ss = ring_settings ring in
+    let n : length ss ≡ length ring = length-map ring (λ s. s.values.settings) in
+    let new : new_id ss k ≡ true = below_at (new_id ss) (length ss) (and_parts (distinct_ids ss) _ law).0 k (subst (λ t. k < t) (sym n) m) in
+    let id : (h : ℕ) → h < length ring → id_number (setting ss h).id ≡ id_number (seat ring h).values.settings.id = λ h q. ap (λ s. id_number s.id) (setting_at ring h q) in
+    true≢false (sym (below_at (λ h. not (eqb (id_number (setting ss h).id) (id_number (setting ss k).id))) k new j l)
+    ∙ ap not (eq-eqb _ _ (id j (omega arith) ∙ e ∙ sym (id k m))))
+
+pub ids_apart : (ring : List Seat) → lawful (ring_settings ring) ≡ true → (j k : ℕ) → j < length ring → k < length ring → (j ≡ k → ⊥)
+    → id_number (seat ring j).values.settings.id ≡ id_number (seat ring k).values.settings.id → ⊥
+ids_apart ring law j k l m n e =
+    ⊎_elim (λ (q : j < k). first_apart ring law j k q m e) (λ (q : k ≤ j). first_apart ring law k j (omega arith) l (sym e)) (cases_lt j k)
 
 -- an owner that is handed NR,RB which is not refused by 18 is the station that it names
 own_rb : (ring : List Seat) (m : Message) (i : ℕ) → lawful (ring_settings ring) ≡ true → i < length ring
@@ -48,9 +74,7 @@ own_rb ring m i law l own rb free =
     let r = fails_somewhere (λ k. not (g k)) (length ring) none in
     let k : ℕ = r.0 in
     let both = and_parts (eqb (id_number (seat ring k).values.settings.id) (id_number m.node)) (is_owner (seat ring k).values.settings.role) (not-false (g k) r.2) in
-    let ss = ring_settings ring in
-    let n : length ss ≡ length ring = length-map ring (λ s. s.values.settings) in
-    let same : k ≡ i = only_one (λ k. is_owner (setting ss k).role) (length ss) (one_owner ring law) k i (subst (λ t. k < t) (sym n) r.1) (subst (λ t. i < t) (sym n) l) (ap is_owner (role_at ring k r.1) ∙ both.1) (ap is_owner (role_at ring i l) ∙ own) in
+    let same : k ≡ i = only_owner ring law k i r.1 l both.1 own in
     subst (λ j. id_number (seat ring j).values.settings.id ≡ id_number m.node) same (eqb-true _ _ both.0)
 
 no_mark : (g o r own : Bool) → (o ≡ true → r ≡ true → own ≡ true) → (g && (o && (r && not own))) ≡ false

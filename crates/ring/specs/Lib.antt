@@ -1,4 +1,5 @@
 pub mod Calls
+pub mod Exception
 pub mod Faults
 pub mod NodeLaws
 pub mod Row

@@ -5,6 +5,7 @@ mod acting;
 mod calls;
 mod delivery;
 mod distinct;
+mod exception;
 mod faults;
 mod lawful;
 mod numbers;
@@ -17,6 +18,7 @@ mod surviving;
 mod ticking;
 
 pub use calls::{clear, deliver, fail, force, repair, restart, status, switch, take_frame, tick};
+pub use exception::the_exception_is_real;
 pub use faults::{RingFault, RingRefusal};
 pub use setup::set_up;
 pub use station::Station;
