@@ -8,8 +8,8 @@ pub struct Station<F> {
     pub fabric: F,
 }
 
-// A station that a call works on: its node, which keeps every rule, and its fabric. It derives what a node has.
-#[derive(Clone, Copy)]
+// A station that a call works on: its node, which keeps every rule, and its fabric.
+#[derive(Clone, Copy, PartialEq, Eq, Debug)]
 pub(crate) struct Live<F> {
     pub(crate) node: Node,
     pub(crate) fabric: F,
