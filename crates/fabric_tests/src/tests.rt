@@ -5,6 +5,7 @@ use fabric::{Address, Fabric, FabricFault, Ports, Record, RegisterFabric, Side, 
 use std::process::Abort;
 use std::test::Fail;
 
+// As in the other crates of examples, of which none stands on another.
 fn address(last: u8) -> Address {
     Address {
         octets: [2, 0, 0, 0, 0, last],

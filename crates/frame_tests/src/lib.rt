@@ -4,8 +4,8 @@
 #[cfg(test)]
 mod tests {
     use frame::{
-        Body, Channel, FrameFault, Message, NodeId, Request, highest, highest_id, read_frame,
-        worked_frame, write_frame,
+        Body, Channel, FRAME_LENGTH, FrameFault, Message, NodeId, Request, highest, highest_id,
+        read_frame, worked_frame, write_frame,
     };
     use std::test::Fail;
 
@@ -20,6 +20,7 @@ mod tests {
         0x64, 0x89, 0x02, 0xE1, 0x28, 0x00, 0x20, 0xB0, 0x20, 0x00, 0x00, 0x5E, 0x00, 0x53, 0x01,
     ];
 
+    // IDs, addresses and damaged frames are built in each crate of examples anew, since none stands on another.
     fn id(last: u8) -> NodeId {
         NodeId {
             octets: [0x00, 0x00, 0x5E, 0x00, 0x53, last],
@@ -27,7 +28,7 @@ mod tests {
     }
 
     // The worked frame with one octet changed.
-    fn damaged(offset: usize, octet: u8) -> [u8; 55] {
+    fn damaged(offset: usize, octet: u8) -> [u8; FRAME_LENGTH] {
         let mut frame = worked_frame();
         if let Some(place) = frame.get_mut(offset) {
             *place = octet;

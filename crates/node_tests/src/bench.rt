@@ -74,7 +74,7 @@ pub enum Call {
     Restart,
     // At this port, from the station whose ID ends so, without DNF and with BPR 0.
     Hear(u8, u8, Request),
-    // The same with DNF and BPR given.
+    // The same with DNF and BPR given: a call of its own, so that most lines of the tables of examples stay short.
     HearWith(u8, u8, Request, bool, bool),
     Event(u8, u8),
 }
@@ -132,6 +132,7 @@ pub struct Refusal {
     pub number: u8,
 }
 
+// As in the other crates of examples, of which none stands on another.
 pub(crate) fn id(last: u8) -> NodeId {
     NodeId {
         octets: [0x00, 0x00, 0x5E, 0x00, 0x53, last],

@@ -16,6 +16,7 @@ mod tests {
         vid: 100,
     };
 
+    // As in the other crates of examples, of which none stands on another.
     fn id(last: u8) -> NodeId {
         NodeId {
             octets: [0x00, 0x00, 0x5E, 0x00, 0x53, last],
