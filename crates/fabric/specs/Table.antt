@@ -77,12 +77,13 @@ table_marks t = record {
   taught = record { p0 = list_any (of_port 0) t.records; p1 = list_any (of_port 1) t.records };
 }
 
--- the octets of an address off the ring, and nothing of any other entry
+-- the octets of an address where it is off the ring, else none
 abbrev pub octets_at : Side → Address → List ℕ
 octets_at Port0 a = []
 octets_at Port1 a = []
 octets_at OffRing a = a.octets
 
+-- those of an entry's address, and nothing of a free place
 abbrev pub off_ring_octets : Entry → List ℕ
 off_ring_octets None = []
 off_ring_octets (Some r) = octets_at r.at r.address

@@ -10,7 +10,7 @@ use super::fabric::Fabric;
 use super::records::{free_ring, has_side, place_for, place_of, side};
 use super::types::{FabricFault, Ports, of_port};
 
-// An Ethernet address.
+// An Ethernet address, of any host: no `NodeId`, which names a station, though each is six octets.
 #[derive(Clone, Copy, PartialEq, Eq, Debug)]
 pub struct Address {
     pub octets: [u8; 6],

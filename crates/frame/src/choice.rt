@@ -2,7 +2,7 @@
 ghost use Rattle.std.specs.Prelude.{◌≡◌, ℕ, length, MatchOption, nat_lt};
 ghost use Rattle.frame.specs.Highest.{HighestAt, first_highest, option_rank};
 
-// An order given by a rank.
+// An order given by a rank, and no `Ord`: a contract names the rank, and a station has no order of all its values.
 pub trait Ranked {
     ghost rank: { Self → ℕ };
 

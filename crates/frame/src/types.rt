@@ -6,7 +6,7 @@ pub const FRAME_LENGTH: usize = 55;
 // The request code of an event.
 pub(crate) const EVENT: u8 = 14;
 
-// The 48-bit number of a station: six octets, the first highest.
+// The 48-bit number of a station: six octets, the first highest. (Octets lie in arrays of a fixed length: no heap is used.)
 #[derive(Clone, Copy, Debug)]
 pub struct NodeId {
     pub octets: [u8; 6],

@@ -1,4 +1,4 @@
-// The calls of a node, over any fabric. A port is a number here, since any other number has a refusal of its own.
+// The calls of a node, over any fabric. A node holds no fabric: the caller owns it and lends it to each call, with the port. A port is a number here, since any other number has a refusal of its own.
 ghost use Rattle.std.specs.Prelude.{◌≡◌, ℕ, true, if◌then◌else◌, Some, None, Ok, Err, IfOk, Option};
 ghost use Rattle.node.specs.Calls.{Leaves, SetUp, Stepped, admitted, clear_step, cleared, deliver_step, fail_step, force_step, given_step, in_step, manual_step, message_step, outcome, question, repair_step, restart_step, set_up_marks, status_of, step_at, switched, taken, takes_clear, takes_manual, tick_step};
 ghost use Rattle.node.specs.Faults.{told_at};
@@ -16,6 +16,7 @@ use fabric::{Fabric, Ports};
 use frame::{Message, read_frame};
 
 impl NodeValues {
+    // (By a pattern: two states are plainer so than by two `==`.)
     fn takes_manual(self) -> bool
         ensures { result ≡ takes_manual self }
     {
@@ -56,7 +57,7 @@ impl NodeValues {
 
 impl Node {
     // The one place where a node's values change. That they make a node is asked of plain values here, in `commit`, `take` and
-    // `take_at`, and carried by no type: a `Node` can only be made where the rules are proved, and that is here.
+    // `take_at`, and carried by no type: the type that carries it is `Node` itself, which is made anew at the end of a call.
     #[tactic(auto, using(crate::proofs::Lawful::parts))]
     pub(crate) fn write(&mut self, values: NodeValues)
         requires { makes_node values ≡ true }

@@ -5,7 +5,8 @@ ghost use Rattle.node.specs.declared.faults.NodeFault.TheVariants.{Frame};
 use crate::types::Port;
 use frame::FrameFault;
 
-// A refusal of the frame library is held whole. `NotNow` holds the port as it was called, like `NoSuchPort`.
+// A refusal of the frame library is held whole. `NotNow` holds the port as it was called, like
+// `NoSuchPort`, so that a refusal tells it in the form in which the call named it.
 #[derive(Clone, Copy, PartialEq, Eq, Debug)]
 pub enum NodeFault {
     Frame(FrameFault),

@@ -1,5 +1,5 @@
-// The rows of received messages, the mismatch mark and the flush logic, on plain values. A row is a match on the state,
-// because the table is a closed list.
+// The rows of received messages, the mismatch mark and the flush logic, on plain values. A row is a match on the request,
+// then on the state, because the table is a closed list.
 ghost use Rattle.std.specs.Prelude.{◌≡◌};
 ghost use Rattle.node.specs.Receiving.{after_message, after_signal, flush_logic, is_foreign_rb, is_own, noted, pair_after, pair_at, pair_flushes, pair_of, reaches_row, row_of, same_pair, with_pair};
 ghost use Rattle.node.specs.Rows.{heard_fail, heard_forced, heard_manual, heard_no_request, heard_row, heard_rpl_blocked, higher, pend_for, quiet_unless_owner, to_idle};

@@ -66,6 +66,7 @@ impl Due {
 }
 
 impl NodeValues {
+    // Two parts of the values, one of them worked out, so no derived `==` says it.
     fn same_sent(self, after: NodeValues) -> bool
         ensures { result ≡ same_sent self after }
     {

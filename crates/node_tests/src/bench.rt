@@ -172,6 +172,7 @@ impl From<Option<Port>> for Marked {
     }
 }
 
+// Of the two answers that the status question gives, so no `From`.
 pub(crate) fn message(sent: Option<Request>, dnf: bool) -> Sends {
     match (sent, dnf) {
         (None, false) => Sends::Nothing,

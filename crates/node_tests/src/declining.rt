@@ -264,7 +264,7 @@ fn places(rt: HostRuntime) -> Result<(), Fail> {
     Ok(())
 }
 
-// The frame of SF, BPR 1, from the station whose ID ends 01, with one octet changed.
+// The frame of SF, BPR 1, from the station whose ID ends 01, with one octet changed; built in each crate of examples anew.
 fn damaged(offset: usize, octet: u8) -> [u8; FRAME_LENGTH] {
     let mut frame = worked_frame();
     if let Some(place) = frame.get_mut(offset) {

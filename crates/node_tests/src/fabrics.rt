@@ -5,6 +5,7 @@ use frame::{Body, Request, worked_frame};
 use node::{Node, Settings};
 use std::test::*;
 
+// As in the other crates of examples, of which none stands on another.
 fn address(last: u8) -> Address {
     Address {
         octets: [2, 0, 0, 0, 0, last],

@@ -5,11 +5,6 @@ use frame::Request;
 use node::{Commands, Due, Node, NodeValues, Port, Role, Sending, Settings, State, Timers};
 use std::test::*;
 
-const NONE: Ports = Ports {
-    p0: false,
-    p1: false,
-};
-
 const PORT_0: Ports = Ports {
     p0: true,
     p1: false,
@@ -89,10 +84,10 @@ fn idle(rt: HostRuntime) -> Result<(), Fail> {
     let idle = idle_owner()?;
     assert!(rt; makes(idle));
     assert!(rt; !makes(with_ports(idle, State::Idle, PORT_0, PORT_0)));
-    assert!(rt; !makes(with_ports(idle, State::Idle, PORT_1, NONE)));
-    assert!(rt; makes(marked(with_ports(idle, State::Idle, PORT_1, NONE))));
+    assert!(rt; !makes(with_ports(idle, State::Idle, PORT_1, Ports::NONE)));
+    assert!(rt; makes(marked(with_ports(idle, State::Idle, PORT_1, Ports::NONE))));
     assert!(rt; !makes(with_commands(idle, PORT_0, None)));
-    assert!(rt; !makes(with_commands(idle, NONE, Some(Port::Zero))));
+    assert!(rt; !makes(with_commands(idle, Ports::NONE, Some(Port::Zero))));
     assert!(rt; !makes(with_role(idle, Role::Neighbour, true)));
     Ok(())
 }
@@ -136,8 +131,8 @@ fn waiting(rt: HostRuntime) -> Result<(), Fail> {
     assert!(rt; !makes(with_timers(waits, 0, 0, 551)));
     assert!(rt; !makes(with_role(waits, Role::Owner, false)));
     assert!(rt; !makes(with_role(waits, Role::Neighbour, true)));
-    assert!(rt; !makes(with_ports(waits, State::Pending, NONE, NONE)));
-    assert!(rt; makes(marked(with_ports(waits, State::Pending, NONE, NONE))));
+    assert!(rt; !makes(with_ports(waits, State::Pending, Ports::NONE, Ports::NONE)));
+    assert!(rt; makes(marked(with_ports(waits, State::Pending, Ports::NONE, Ports::NONE))));
     Ok(())
 }
 
@@ -146,13 +141,13 @@ fn failures(rt: HostRuntime) -> Result<(), Fail> {
     let failed = Station::brought(OWNER, &[Call::Fail(1)])?.node.values;
     assert!(rt; makes(failed));
     assert!(rt; !makes(with_ports(failed, State::Protection, PORT_0, PORT_1)));
-    assert!(rt; !makes(with_ports(failed, State::Protection, PORT_1, NONE)));
+    assert!(rt; !makes(with_ports(failed, State::Protection, PORT_1, Ports::NONE)));
     assert!(rt; !makes(with_ports(failed, State::ForcedSwitch, PORT_1, PORT_1)));
     let told = Station::brought(OWNER, &[Call::Fail(1), Call::Hear(0, 9, FS)])?
         .node
         .values;
     assert!(rt; makes(told));
-    assert!(rt; !makes(with_ports(told, State::Protection, NONE, PORT_1)));
+    assert!(rt; !makes(with_ports(told, State::Protection, Ports::NONE, PORT_1)));
     assert!(rt; !makes(with_commands(told, PORT_1, None)));
     Ok(())
 }
@@ -161,7 +156,7 @@ fn failures(rt: HostRuntime) -> Result<(), Fail> {
 #[test]
 fn made_node_serves(rt: HostRuntime) -> Result<(), Fail> {
     let mut station = Station::brought(OTHER, &[Call::Hear(0, 9, NR_RB)])?;
-    let astray = marked(with_ports(station.node.values, State::Idle, PORT_0, NONE));
+    let astray = marked(with_ports(station.node.values, State::Idle, PORT_0, Ports::NONE));
     let Some(node) = Node::from_values(astray) else {
         return Err(Fail::new("no node"));
     };

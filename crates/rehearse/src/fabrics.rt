@@ -52,7 +52,7 @@ fn show_word(rt: &HostRuntime, register: &RegisterFabric) -> io::Result<()> {
     println!(rt; "  word {word:08X}")
 }
 
-// The address of a host, by its last octet.
+// The address of a host, by its last octet; a program stands on no crate of examples, which build theirs alike.
 fn host(last: u8) -> Address {
     Address {
         octets: [0x00, 0x00, 0x5E, 0x00, 0x53, last],

@@ -18,7 +18,7 @@ use Rattle.ring.specs.Row.{Seat, blank, seat}
 use Rattle.ring.specs.Runs.{SomeBlocked, FalseDelivery}
 use Rattle.ring.specs.SetUp.{fresh}
 
--- an idle station: it has no mismatch mark, and its fabric's blocked marks are the node's, as every run keeps them
+-- an idle station: it has no mismatch mark, and its fabric's blocked marks are the node's, else it takes no delivery (9)
 pub record IdleStation (s : Seat) : Type 0 where
   pub state : s.values.state ≡ Idle
   pub plain : s.values.mismatch ≡ false

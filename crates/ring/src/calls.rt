@@ -1,5 +1,5 @@
 // The calls of a ring at a station: the row is checked, and one station is read, asked, and written whole. Row, station and
-// port stand side by side, since the row is the caller's own slice and a refusal tells station and port one by one.
+// port stand side by side, since the row is the caller's own slice and a refusal tells station and port one by one; a port is a number as at the fabric.
 ghost use Rattle.std.specs.Prelude.{◌≡◌};
 ghost use Rattle.ring.specs.Calls.{Does, Done, call, clear, deliver, fail, force, frame as frame_into, repair, restart, ring_buffer, ring_status, status, switch, tick, unit_of};
 ghost use Rattle.ring.specs.Faults.{told_ring};

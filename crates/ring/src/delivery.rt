@@ -26,6 +26,7 @@ fn names_nobody<F: Fabric>(row: &[Station<F>], node: NodeId) -> bool
     row.iter().all(|station| !has_id(station, node))
 }
 
+// By a pattern: one field of one case, whatever the others are.
 fn is_rb(body: Body) -> bool
     ensures { result ≡ is_rb body }
 {

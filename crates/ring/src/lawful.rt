@@ -39,6 +39,7 @@ fn stands(own: Settings, far: Settings) -> bool
     }
 }
 
+// Channel and MEL alone: in all else settings differ from station to station, so no derived `==` says it.
 fn same_settings(a: Settings, b: Settings) -> bool
     ensures { result ≡ same_settings a b }
 {

@@ -33,7 +33,7 @@ fn start<F: Fabric>(station: &mut Station<F>, settings: Settings)
 }
 
 // By index: of a slice that is written under `zip` of `iter_mut` a proof knows nothing (tried: with
-// `for (station, own) in row.iter_mut().zip(settings)` the loop's record has no value of the row).
+// `for (station, own) in row.iter_mut().zip(settings)` no invariant of the loop can speak of the row).
 fn start_all<F: Fabric>(row: &mut [Station<F>], settings: &[Settings])
     requires count { length settings.now ≡ length row.old }
     requires range { (k : ℕ) → k < length row.old → settings_ok (setting settings.now k) ≡ true }
