@@ -63,6 +63,7 @@ impl From<At> for Settings {
     }
 }
 
+// Ports and the last octets of IDs are numbers, as a call names its port, so that a line of a table is read as a whole.
 #[derive(Clone, Copy)]
 pub enum Call {
     Clear,
