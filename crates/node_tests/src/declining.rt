@@ -173,7 +173,7 @@ fn out_of_step(bits: u32) -> Result<Station, u8> {
 }
 
 // A wrong port comes before it; a command that is not taken comes after it.
-// The port as the refusal tells it, a number.
+// Each call with the number of its refusal.
 const OUT_OF_STEP: [(Call, u8); 11] = [
     (Call::Clear, 9),
     (Call::Force(1), 9),

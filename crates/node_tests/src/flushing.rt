@@ -4,7 +4,6 @@ use frame::NodeId;
 use std::process::Abort;
 use std::test::*;
 
-// The last octet of the ID, and the BPR.
 // The last octet of the ID and the BPR: short, so that a line of a table is read as a whole.
 type Pair = (u8, bool);
 
