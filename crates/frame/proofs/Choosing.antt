@@ -1,8 +1,9 @@
 -- The first best of a list is its first place of the highest rank. Assumes nothing.
-use Rattle.std.proofs.Common.{◌≡◌, ℕ, zero, suc, ◌+◌, ◌<◌, ◌≤◌, Bool, true, false, eqb, ltb, List, [], ◌∷◌, length, get_or, Some, None, sym, refl, ap, ◌∙◌, suc-le-suc, zero-le, le_of_suc-le-suc, add-one, arith}
+use Rattle.std.proofs.Common.{◌≡◌, ℕ, zero, suc, ◌+◌, ◌-◌, ◌<◌, ◌≤◌, Bool, true, false, eqb, ltb, List, [], ◌∷◌, length, get_or, take, drop, Some, None, sym, refl, ap, ◌∙◌, suc-le-suc, zero-le, le_of_suc-le-suc, arith}
 use Rattle.std.specs.Option.{option_map}
 use Rattle.std.specs.Cmp.{IsStrictWeakOrder}
 use Rattle.std.specs.List.{IsFirstBest}
+use Rattle.std.proofs.lemmas.List.{get_or-drop, length-drop, take_rest}
 use Rattle.std.proofs.lemmas.List.MinMax.{IsFirstBest-keeps, IsFirstBest-none, IsFirstBest-takes, IsStrictWeakOrder-by_number, IsStrictWeakOrder-flip}
 use Rattle.std.proofs.lemmas.Bool.{ltb-false, ltb-true, eq-eqb, ne_eqb, cond-true, cond-false}
 use Rattle.frame.specs.Highest.{highest_rank, first_with, first_highest, HighestAt}
@@ -33,37 +34,25 @@ over rank x y = ltb (rank y) (rank x)
 order : {X : Type 0} (rank : X → ℕ) → IsStrictWeakOrder (over rank)
 order rank = IsStrictWeakOrder-flip _ (IsStrictWeakOrder-by_number rank)
 
--- so many have been looked at when the walk is at i: the first stands as the best from the start
-abbrev pub seen : ℕ → ℕ
-seen zero = 1
-seen (suc n) = suc n
+-- what stands after the first
+pub later : {X : Type 0} (xs : List X) (i : ℕ) (d : X) → get_or (take (length xs - 1) (drop 1 xs)) i d ≡ get_or xs (i + 1) d
+later xs i d =
+    let next : 1 + i ≡ i + 1 = omega arith in
+    ap (λ ys. get_or ys i d) (take_rest xs 1) ∙ get_or-drop 1 xs i d ∙ ap (λ k. get_or xs k d) next
 
-pub seen_next : (i : ℕ) → seen (i + 1) ≡ i + 1
-seen_next zero = refl
-seen_next (suc n) = rw add-one refl
+pub later_count : {X : Type 0} (xs : List X) → length (take (length xs - 1) (drop 1 xs)) ≡ length xs - 1
+later_count xs = ap length (take_rest xs 1) ∙ length-drop 1 xs
 
-pub starts : {X : Type 0} (rank : X → ℕ) (xs : List X) → IsFirstBest (over rank) xs (seen 0) 0
+pub starts : {X : Type 0} (rank : X → ℕ) (xs : List X) → IsFirstBest (over rank) xs 1 0
 starts rank xs = IsFirstBest-none (order rank) xs
 
-pub stays : {X : Type 0} (rank : X → ℕ) (xs : List X) (i b : ℕ) (x y : X) → IsFirstBest (over rank) xs (seen i) b → i < length xs
-    → x ≡ get_or xs i x → y ≡ get_or xs b y → over rank x y ≡ false → IsFirstBest (over rank) xs (seen (i + 1)) b
-stays rank xs zero b x y h l p q f = h
-stays rank xs (suc n) b x y h l p q f = rw (seen_next (suc n)) (IsFirstBest-keeps (order rank) xs (suc n) b x y h l p q f)
+pub stays : {X : Type 0} (rank : X → ℕ) (xs : List X) (i b : ℕ) (x y : X) → IsFirstBest (over rank) xs i b → i < length xs
+    → x ≡ get_or xs i x → y ≡ get_or xs b y → over rank x y ≡ false → IsFirstBest (over rank) xs (i + 1) b
+stays rank xs i b x y h l p q f = IsFirstBest-keeps (order rank) xs i b x y h l p q f
 
-pub moves : {X : Type 0} (rank : X → ℕ) (xs : List X) (i b : ℕ) (x y : X) → IsFirstBest (over rank) xs (seen i) b → i < length xs
-    → x ≡ get_or xs i x → y ≡ get_or xs b y → over rank x y ≡ true → IsFirstBest (over rank) xs (seen (i + 1)) i
-moves rank xs zero b x y h l p q f = starts rank xs
-moves rank xs (suc n) b x y h l p q f = rw (seen_next (suc n)) (IsFirstBest-takes (order rank) xs (suc n) b x y h l p q f)
-
-seen_all : (i n : ℕ) → n ≤ i → i ≤ n → false ≡ eqb n 0 → seen i ≡ n
-seen_all i zero l m e = cc
-seen_all zero (suc n) l m e = absurd (omega arith)
-seen_all (suc i) (suc n) l m e = omega arith
-
--- where the walk ends, all have been looked at
-pub all_seen : {X : Type 0} (rank : X → ℕ) (xs : List X) (i b : ℕ) → length xs ≤ i → i ≤ length xs → false ≡ eqb (length xs) 0
-    → IsFirstBest (over rank) xs (seen i) b → IsFirstBest (over rank) xs (length xs) b
-all_seen rank xs i b l m e h = rw (seen_all i (length xs) l m e) at h
+pub moves : {X : Type 0} (rank : X → ℕ) (xs : List X) (i b : ℕ) (x y : X) → IsFirstBest (over rank) xs i b → i < length xs
+    → x ≡ get_or xs i x → y ≡ get_or xs b y → over rank x y ≡ true → IsFirstBest (over rank) xs (i + 1) i
+moves rank xs i b x y h l p q f = IsFirstBest-takes (order rank) xs i b x y h l p q f
 
 best_with_default : {X : Type 0} (rank : X → ℕ) (xs : List X) (d : X) (b : ℕ) → b < length xs
     → IsFirstBest (over rank) xs (length xs) b → first_highest rank xs ≡ Some b

@@ -32,11 +32,12 @@ pub fn highest<T: Ranked>(items: &[T]) -> Option<usize>
     if items.is_empty() {
         return None;
     }
+    // The first stands as the best from the start, and is asked about nothing.
     let mut best = 0;
-    for (i, item) in items.iter().enumerate() {
+    for (i, item) in items[1..].iter().enumerate() {
         let is_higher = item.outranks(&items[best]);
         if is_higher {
-            best = i;
+            best = i + 1;
         }
     }
     Some(best)

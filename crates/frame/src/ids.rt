@@ -65,8 +65,9 @@ impl PartialOrd for NodeId {
 impl Ranked for NodeId {
     ghost rank = { id_number };
 
+    // By the numbers: `<` goes through an ordering, and the choice asks this of each in turn.
     fn outranks(&self, other: &NodeId) -> bool {
-        other < self
+        u64::from(*other) < u64::from(*self)
     }
 }
 

@@ -1,5 +1,6 @@
-use Rattle.std.proofs.Common.{rules, arith}
-use Rattle.frame.proofs.Choosing.{all_seen, first_best_is, first_best_law, none_is, starts, stays, moves}
+use Rattle.std.proofs.Common.{◌≡◌, ◌+◌, ◌<◌, length, ◌∙◌, rules, arith}
+use Rattle.std.specs.List.{IsFirstBest}
+use Rattle.frame.proofs.Choosing.{over, first_best_is, first_best_law, later, later_count, none_is, starts, stays, moves}
 use Rattle.frame.proofs.choice.highest.Goals as goal
 use Rattle.frame.proofs.choice.highest.Goals.{then-is_higher, else-is_higher}
 
@@ -11,12 +12,17 @@ loop-i-init g c = starts g.T.Ranked.rank _
 
 pub loop-i-preserved : goal.loop-i-preserved
 loop-i-preserved g c =
+    let xs = c.args.items.now in
+    let next : c.loop-i.i + 1 < length xs = omega (arith, later_count xs) in
+    let item = c.item-item.is ∙ later xs c.loop-i.i c.item-item.result in
     elim c.if-is_higher.branch [
-      | then-is_higher w ↦ rw w.best-is (moves g.T.Ranked.rank _ _ _ _ _ c.loop-i.invariant (omega arith) c.index-items-i.is c.index-items-best.is (search rules))
-      | else-is_higher w ↦ rw w.best-is (stays g.T.Ranked.rank _ _ _ _ _ c.loop-i.invariant (omega arith) c.index-items-i.is c.index-items-best.is (search rules))
+      | then-is_higher w ↦ rw w.best-is (moves g.T.Ranked.rank _ _ _ _ _ c.loop-i.invariant next item c.index-items-best.is (search rules))
+      | else-is_higher w ↦ rw w.best-is (stays g.T.Ranked.rank _ _ _ _ _ c.loop-i.invariant next item c.index-items-best.is (search rules))
     ]
 
 pub returns : goal.returns
 returns g c =
-    let h = all_seen g.T.Ranked.rank _ _ _ c.loop-i-test.false c.loop-i.auto.i-end c.if-is_empty.ensures c.loop-i.invariant in
+    let xs = c.args.items.now in
+    let e : c.loop-i.i + 1 ≡ length xs = grind (arith, later_count xs) in
+    let h : IsFirstBest (over g.T.Ranked.rank) xs (length xs) c.loop-i.best = rw e at c.loop-i.invariant in
     record { value = first_best_is g.T.Ranked.rank _ _ h; law = first_best_law g.T.Ranked.rank _ _ h }

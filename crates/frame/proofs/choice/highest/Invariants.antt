@@ -1,6 +1,7 @@
+use Rattle.std.proofs.Common.{◌+◌}
 use Rattle.std.specs.List.{IsFirstBest}
-use Rattle.frame.proofs.Choosing.{over, seen}
+use Rattle.frame.proofs.Choosing.{over}
 use Rattle.frame.proofs.choice.highest.Given as goal
 
 abbrev pub invariant-loop-i : goal.invariant-loop-i
-invariant-loop-i g l = IsFirstBest (over g.T.Ranked.rank) l.items (seen l.i) l.best
+invariant-loop-i g l = IsFirstBest (over g.T.Ranked.rank) l.items (l.i + 1) l.best
