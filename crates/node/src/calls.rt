@@ -1,5 +1,5 @@
 // The calls of a node, over any fabric. A node holds no fabric: the caller owns it and lends it to each call, with the port. A port is a number here, since any other number has a refusal of its own.
-ghost use Rattle.std.specs.Prelude.{◌≡◌, ℕ, true, if◌then◌else◌, Some, None, Ok, Err, IfOk, Option};
+ghost use Rattle.std.specs.Prelude.{◌≡◌, ℕ, true, if◌then◌else◌, Some, None, Ok, Err, IfOk, Option, Result};
 ghost use Rattle.node.specs.Calls.{Leaves, SetUp, Stepped, admitted, clear_step, cleared, deliver_step, fail_step, force_step, given_step, in_step, manual_step, message_step, outcome, question, repair_step, restart_step, set_up_marks, status_of, step_at, switched, taken, takes_clear, takes_manual, tick_step};
 ghost use Rattle.node.specs.Faults.{told_at};
 ghost use Rattle.node.specs.Ports.{port_number};
@@ -75,18 +75,19 @@ impl Node {
         self.write(o.values);
     }
 
-    // Commits what a call gave, unless the node is out of step with the fabric or the call was refused by a rule of its own.
-    // What was given is a value and no closure, since a call with a rule of its own works it out on values alone.
-    fn take<F: Fabric>(
+    // Commits what a call gives, unless the node is out of step with the fabric or the call is refused by a rule of its own.
+    // What it gives is worked out only in step: so a call out of step costs at most two questions to the fabric.
+    fn take<F: Fabric, G: FnOnce(NodeValues) -> Result<Outcome, NodeFault>>(
         &mut self,
         fabric: &mut F,
-        given: Result<Outcome, NodeFault>,
+        give: G,
     ) -> Result<(), NodeFault>
-        requires { IfOk given (λ o. makes_node o.values ≡ true) }
-        ensures { (called : Option ℕ) → Stepped F.marks F.kept called (given_step self.old.values (F.marks fabric.old) called (in_step self.old.values.blocked (F.marks fabric.old).blocked) given) fabric.old fabric.new result self.new.values }
+        requires callable { G.pre give self.old.values }
+        requires lawful { (r : Result Outcome NodeFault) → G.post give self.old.values r → IfOk r (λ o. makes_node o.values ≡ true) }
+        ensures { (called : Option ℕ) (given : Result Outcome NodeFault) → ((r : Result Outcome NodeFault) → G.post give self.old.values r → r ≡ given) → Stepped F.marks F.kept called (given_step self.old.values (F.marks fabric.old) called (in_step self.old.values.blocked (F.marks fabric.old).blocked) given) fabric.old fabric.new result self.new.values }
     {
         self.values.in_step(fabric)?;
-        let o = given?;
+        let o = give(self.values)?;
         self.commit(fabric, o);
         Ok(())
     }
@@ -98,13 +99,12 @@ impl Node {
         port: u8,
         row: R,
     ) -> Result<(), NodeFault>
-        requires callable { (q : Port) → R.pre row self.old.values q }
+        requires callable { R.IsAlwaysCallable row }
         requires lawful { (q : Port) (o : Outcome) → R.post row self.old.values q o → makes_node o.values ≡ true }
         ensures { (f : Port → Outcome) → ((q : Port) (o : Outcome) → R.post row self.old.values q o → o ≡ f q) → Stepped F.marks F.kept (Some port) (step_at self.old.values (F.marks fabric.old) port (admitted self.old.values (F.marks fabric.old) port) (λ q. taken (F.marks fabric.old) (f q))) fabric.old fabric.new result self.new.values }
     {
         let at = Port::try_from(port)?;
-        let o = row(self.values, at);
-        self.take(fabric, Ok(o))
+        self.take(fabric, |values| Ok(row(values, at)))
     }
 
     // A new node on these settings: Start runs, and drives the fabric.
@@ -138,14 +138,14 @@ impl Node {
         ensures { Stepped F.marks F.kept (Some port) (manual_step self.old.values (F.marks fabric.old) port) fabric.old fabric.new result self.new.values }
     {
         let at = Port::try_from(port)?;
-        self.take(fabric, self.values.switched(at))
+        self.take(fabric, |values| values.switched(at))
     }
 
     // Clear: ends the commands, or has a waiting owner rest.
     pub fn clear<F: Fabric>(&mut self, fabric: &mut F) -> Result<(), NodeFault>
         ensures { Stepped F.marks F.kept None (clear_step self.old.values (F.marks fabric.old)) fabric.old fabric.new result self.new.values }
     {
-        self.take(fabric, self.values.cleared())
+        self.take(fabric, |values| values.cleared())
     }
 
     // A failure at a port.
@@ -174,8 +174,9 @@ impl Node {
     pub fn tick<F: Fabric>(&mut self, fabric: &mut F) -> Result<(), NodeFault>
         ensures { Stepped F.marks F.kept None (tick_step self.old.values (F.marks fabric.old)) fabric.old fabric.new result self.new.values }
     {
-        let o = self.values.lowered().settle(self.values.tick_row());
-        self.take(fabric, Ok(o))
+        self.take(fabric, |values| {
+            Ok(values.lowered().settle(values.tick_row()))
+        })
     }
 
     // Start again: settings and failures stay.

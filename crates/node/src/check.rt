@@ -104,13 +104,12 @@ impl NodeValues {
     fn makes_node(self) -> bool
         ensures { result ≡ makes_node self }
     {
+        // (By `&`, with no branch between them: all seven are short, and on a node each is asked.)
         settings_ok(self.settings)
-            && self.failed_ok()
-            && self.forced_ok()
-            && self.sending_ok()
-            && self.burst_ok()
-            && self.timers_ok()
-            && self.idle_ok()
+            & (self.failed_ok()
+                & (self.forced_ok()
+                    & (self.sending_ok()
+                        & (self.burst_ok() & (self.timers_ok() & self.idle_ok())))))
     }
 }
 

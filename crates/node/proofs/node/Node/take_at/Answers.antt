@@ -1,6 +1,13 @@
-use Rattle.std.proofs.Common.{Some, rules}
+use Rattle.std.proofs.Common.{Ok, Some, refl, rules}
 use Rattle.node.proofs.Steps.{plain_at}
 use Rattle.node.proofs.node.Node.take_at.Goals as goal
 
+pub take-requires-clause-lawful : goal.take-requires-clause-lawful
+take-requires-clause-lawful g c = λ r p. search rules
+
 pub returns : goal.returns
-returns g c = λ f h. plain_at c.args.self.now.values (g.F.Fabric.marks c.args.fabric.now) f c.args.port c.in_ok-at.at c.row-o.result (search rules) (h c.in_ok-at.at c.row-o.result c.row-o.ensures) (c.take.ensures (Some c.args.port))
+returns g c = λ f h.
+    let v = c.args.self.now.values in
+    let q = c.in_ok-at.at in
+    plain_at v (g.F.Fabric.marks c.args.fabric.now) f c.args.port q (f q) (search rules) refl
+    (c.take.ensures (Some c.args.port) (Ok (f q)) (λ r p. search rules))
