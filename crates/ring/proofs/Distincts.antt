@@ -1,8 +1,5 @@
 -- Distinct IDs, and a sort that shows them. Assumes nothing.
-use Rattle.std.proofs.Common.{◌≡◌, ℕ, zero, suc, ◌+◌, ◌<◌, Bool, true, false, not, eqb, ltb, List, length, get_or, Decides, sym, refl, ap, ◌∙◌, subst, arith}
-use denote.Param.Members.{Mut}
-use Rattle.std.specs.Array.{IsFromFnResult, IsFromFnResultFrom}
-use Rattle.std.specs.Fn.{Called}
+use Rattle.std.proofs.Common.{◌≡◌, ℕ, ◌<◌, Bool, true, false, not, eqb, ltb, List, length, get_or, Decides, sym, refl, ap, ◌∙◌, subst, arith}
 use Rattle.std.specs.List.{IsDistinct, IsAllAdjacentAnswer}
 use Rattle.std.specs.List.Sorted.{IsPermutation, IsNonDecreasing, IsStrictlyIncreasing}
 use Rattle.std.proofs.lemmas.Bool.{lt-ltb, ltb-true, ne_eqb, not-true, true≢false}
@@ -26,23 +23,6 @@ distinct_rising ys s = IsDistinct-from_apart eqb ys (λ i j d l m. ne_eqb _ _ (�
 pub rising_is : (ys : List ℕ) (r : Bool) → IsAllAdjacentAnswer (λ x y b. b ≡ ltb x y) ys r → Decides r (IsStrictlyIncreasing ys)
 rising_is ys true h = ((λ _ k l. ltb-true _ _ (sym (h k 0 l))), λ _. refl)
 rising_is ys false (k, l, h) = ((λ e. absurd cc), λ s. absurd (true≢false (sym (lt-ltb _ _ (s k l)) ∙ sym (h 0))))
-
--- an array made by a closure that changes nothing, at those of its places where it is known what the closure gives
-module _ {F B : Type 0} (g : Mut F (ℕ × Unit {0}) B) (of : ℕ → B) (m : ℕ) (f : F)
-    (gives : (k : ℕ) (y : B) (q : F) → Called g f (k, tt) y q → (q ≡ f) × (k < m → y ≡ of k)) where
-  filled_from : (ys : List B) (i n k : ℕ) (d : B) → IsFromFnResultFrom g f ys i n → k < n → i + k < m → get_or ys (i + k) d ≡ of (i + k)
-  filled_from ys i zero k d h l w = absurd (omega arith)
-  filled_from ys i (suc n) zero d (q, y, e, c, r) l w =
-      let z : i ≡ i + 0 = omega arith in
-      subst (λ j. get_or ys j d ≡ of j) z (e.1 d ∙ (gives i y q c).1 (omega arith))
-  filled_from ys i (suc n) (suc k) d (q, y, e, c, r) l w =
-      let z : i + 1 + k ≡ i + suc k = omega arith in
-      subst (λ j. get_or ys j d ≡ of j) z (filled_from ys (i + 1) n k d (subst (λ p. IsFromFnResultFrom g p ys (i + 1) n) (gives i y q c).0 r) (omega arith) (omega arith))
-
-  pub filled : {ys : List B} {n : ℕ} → IsFromFnResult g f ys n → (k : ℕ) (d : B) → k < n → k < m → get_or ys k d ≡ of k
-  filled {ys} {n} h k d l w =
-      let z : 0 + k ≡ k = omega arith in
-      subst (λ j. get_or ys j d ≡ of j) z (filled_from ys 0 n k d h.each l (omega arith))
 
 -- the numbers of a ring's IDs, in order
 module _ (ss : List Settings) (xs : List ℕ) (n : length xs ≡ length ss) (ids : (k : ℕ) → k < length ss → get_or xs k 0 ≡ id_number (setting ss k).id) where
